@@ -1,0 +1,49 @@
+-- What a search has found, by what it passed.
+use Prim.Native.Nat.{ℕ, zero, suc, _+_, _≤_, _<_}
+use native.Mathlib.Omega.{arith}
+use mathlib.Core.Path.{_≡_, refl, sym, ap, subst, _∙_}
+use mathlib.Core.Bool.{Bool, true, false, cond}
+use mathlib.Core.Logic.{⊎-elim}
+use Rattle.std.specs.declared.option.Option.{Option}
+use Rattle.std.specs.declared.option.Option.the-variants.{Some, None}
+use Rattle.std.proofs.shelf.Tests.{cases-bool, cases-eq, cond-true, cond-false}
+use Rattle.grid.specs.Search.{firstWhere, lastWhere}
+
+module _ (f : ℕ → Bool) where
+  pub first-none : (i n : ℕ) → ((k : ℕ) → i ≤ k → k < i + n → f k ≡ false) → firstWhere f i n ≡ None
+  first-none i zero h = refl
+  first-none i (suc n) h =
+      cond-false (f i) (Some i) (firstWhere f (suc i) n) (h i (omega arith) (omega arith)) ∙ first-none (suc i) n (λ k p q. h k (omega arith) (omega arith))
+
+  pub first-found : (i n j : ℕ) → i ≤ j → j < i + n → ((k : ℕ) → i ≤ k → k < j → f k ≡ false) → f j ≡ true → firstWhere f i n ≡ Some j
+  first-found i zero j p q h e = absurd (omega arith)
+  first-found i (suc n) j p q h e =
+      ⊎-elim
+        (λ (s : i ≡ j). cond-true (f i) (Some i) (firstWhere f (suc i) n) (ap f s ∙ e) ∙ ap Some s)
+        (λ ne.
+          let l : suc i ≤ j = omega arith in
+          cond-false (f i) (Some i) (firstWhere f (suc i) n) (h i (omega arith) (omega arith)) ∙ first-found (suc i) n j l (omega arith) (λ k a b. h k (omega arith) b) e)
+        (cases-eq i j)
+
+  -- no index at which the test holds was passed where the search found none
+  pub none-where : (i n k : ℕ) → firstWhere f i n ≡ None → i ≤ k → k < i + n → f k ≡ false
+  none-where i zero k e p q = absurd (omega arith)
+  none-where i (suc n) k e p q =
+      ⊎-elim
+        (λ (t : f i ≡ true).
+          let z : Some i ≡ None = sym (cond-true (f i) (Some i) (firstWhere f (suc i) n) t) ∙ e in
+          let bad : _≡_ {A = ℕ} 0 1 = cc in absurd (omega arith))
+        (λ (t : f i ≡ false).
+          ⊎-elim
+            (λ (s : k ≡ i). ap f s ∙ t)
+            (λ ne. none-where (suc i) n k (sym (cond-false (f i) (Some i) (firstWhere f (suc i) n) t) ∙ e) (omega arith) (omega arith))
+            (cases-eq k i))
+        (cases-bool (f i))
+
+  pub last-found : (n k : ℕ) → k < n → f k ≡ true → ((j : ℕ) → k < j → j < n → f j ≡ false) → lastWhere f n ≡ k
+  last-found zero k p e h = absurd (omega arith)
+  last-found (suc n) k p e h =
+      ⊎-elim
+        (λ (s : k ≡ n). cond-true (f n) n (lastWhere f n) (ap f (sym s) ∙ e) ∙ sym s)
+        (λ ne. cond-false (f n) n (lastWhere f n) (h n (omega arith) (omega arith)) ∙ last-found n k (omega arith) e (λ j a b. h j a (omega arith)))
+        (cases-eq k n)

@@ -1,0 +1,3 @@
+pub mod Blend
+pub mod Search
+pub mod Refusals

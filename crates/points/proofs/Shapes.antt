@@ -1,0 +1,63 @@
+-- Lists of coordinates: their shape, and how a kind's few numbers make one.
+use Prim.Native.Nat.{ℕ, zero, suc, _+_, _≤_, _<_, _^_}
+use native.Mathlib.Omega.{arith}
+use mathlib.Core.Path.{_≡_, refl, sym, ap, subst, _∙_}
+use mathlib.Core.Bool.{Bool, true, false, not}
+use mathlib.Core.Logic.{⊎-elim}
+use mathlib.Core.List.{List, [], _∷_, map}
+use lib.Dec.{eqb}
+use lib.IntN.{ℤ, pos, natAbs}
+use lib.ListN.{length, getD}
+use Rattle.std.specs.Iters.{counting}
+use Rattle.std.specs.declared.option.Option.{Option}
+use Rattle.std.specs.declared.option.Option.the-variants.{Some, None}
+use Rattle.std.proofs.shelf.Counted.{fill-by-all}
+use Rattle.std.proofs.shelf.Lists.{getD-past}
+use Rattle.std.proofs.shelf.Tests.{leb-true, eq-eqb, not-false, cases-lt}
+use Rattle.grid.specs.Blend.{Coordinate}
+use Rattle.grid.specs.Refusals.{unless, at}
+use Rattle.grid.specs.Search.{firstWhere}
+use Rattle.grid.proofs.Searches.{first-none, first-found}
+use Rattle.points.specs.declared.fault.PointFault.{PointFault}
+use Rattle.points.specs.declared.fault.PointFault.the-variants.{Count, Range, Test}
+use Rattle.points.specs.Lists.{inRange, misshapen}
+use Rattle.points.specs.Stored.{clamped}
+use Rattle.points.proofs.Clamping.{clamped-coordinate}
+
+-- a list is made of its own elements
+pub rebuilt : (n : ℕ) (xs : List ℤ) → length xs ≡ n → map (λ k. getD xs k (pos 0)) (counting 0 n) ≡ xs
+rebuilt n xs e = sym (fill-by-all (λ k. getD xs k (pos 0)) xs n (pos 0) e (λ k h. refl))
+
+-- the coordinates of a list, one by one; past the last one 0 stands, a coordinate too
+pub ranged-none : (i : ℕ) → Coordinate (getD [] i (pos 0))
+ranged-none zero = omega arith
+ranged-none (suc i) = omega arith
+
+pub ranged-more : (x : ℤ) (xs : List ℤ) → Coordinate x → ((i : ℕ) → Coordinate (getD xs i (pos 0))) → (i : ℕ) → Coordinate (getD (x ∷ xs) i (pos 0))
+ranged-more x xs h r zero = h
+ranged-more x xs h r (suc i) = r i
+
+pub clamped-ranged : (zs : List ℤ) (i : ℕ) → Coordinate (getD (map clamped zs) i (pos 0))
+clamped-ranged [] = ranged-none
+clamped-ranged (z ∷ zs) = ranged-more (clamped z) (map clamped zs) (clamped-coordinate z) (clamped-ranged zs)
+
+-- a coordinate out of range
+abbrev pub out : List ℤ → ℕ → Bool
+out xs i = not (inRange (getD xs i (pos 0)))
+
+module _ (xs : List ℤ) (width : ℕ) (e : length xs ≡ width) (after : Option PointFault) where
+  shaped : misshapen width xs after ≡ at (firstWhere (out xs) 0 (length xs)) Range after
+  shaped = ap (λ t. unless t Count (at (firstWhere (out xs) 0 (length xs)) Range after)) (eq-eqb (length xs) width e)
+
+  pub out-at : (i : ℕ) → i < length xs → ((k : ℕ) → 0 ≤ k → k < i → out xs k ≡ false) → out xs i ≡ true → misshapen width xs after ≡ Some (Range i)
+  out-at i h before here = shaped ∙ ap (λ o. at o Range after) (first-found (out xs) 0 (length xs) i (omega arith) (omega arith) before here)
+
+  pub out-nowhere : ((k : ℕ) → 0 ≤ k → k < length xs → out xs k ≡ false) → misshapen width xs after ≡ after
+  out-nowhere all = shaped ∙ ap (λ o. at o Range after) (first-none (out xs) 0 (length xs) (λ k p q. all k p (omega arith)))
+
+pub all-ranged : (xs : List ℤ) → ((k : ℕ) → 0 ≤ k → k < length xs → out xs k ≡ false) → (i : ℕ) → Coordinate (getD xs i (pos 0))
+all-ranged xs all i =
+    ⊎-elim
+      (λ (l : i < length xs). leb-true _ _ (not-false _ (all i (omega arith) l)))
+      (λ (g : length xs ≤ i). subst Coordinate (sym (getD-past xs i (pos 0) g)) (omega arith))
+      (cases-lt i (length xs))

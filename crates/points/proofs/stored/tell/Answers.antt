@@ -1,0 +1,8 @@
+use borrow.Author.Needs.{needs}
+use Rattle.points.specs.Stored.{clamped}
+use Rattle.points.proofs.Clamping.{telling}
+use Rattle.points.proofs.stored.tell.Needs as need
+
+pub returns : need.returns
+unfolding clamped
+returns c = search needs

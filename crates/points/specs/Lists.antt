@@ -1,0 +1,75 @@
+-- Points as lists of coordinates: what makes one, its blend and its flip.
+use Prim.Native.Nat.{ℕ, _^_}
+use mathlib.Core.Path.{_≡_}
+use mathlib.Core.Bool.{Bool, true, false, not, cond, _||_}
+use mathlib.Core.List.{List, [], _∷_, map}
+use lib.Dec.{eqb, leb}
+use lib.IntN.{ℤ, pos, negℤ, natAbs}
+use lib.ListN.{length, getD}
+use lib.Signed.{leZ}
+use Rattle.std.specs.declared.option.Option.{Option}
+use Rattle.std.specs.declared.option.Option.the-variants.{Some, None}
+use Rattle.grid.specs.Blend.{Coordinate, blended, inexact}
+use Rattle.grid.specs.Refusals.{unless, at}
+use Rattle.grid.specs.Search.{firstWhere}
+use Rattle.points.specs.declared.fault.PointFault.{PointFault}
+use Rattle.points.specs.declared.fault.PointFault.the-variants.{Count, Range, Test}
+
+-- a list is a point of a kind where it has the kind's width, its coordinates are in range (0 stands past the last one),
+-- and it passes the kind's test
+pub record IsPoint (width : ℕ) (passes : List ℤ → Bool) (xs : List ℤ) : Type 0 where
+  pub long : length xs ≡ width
+  pub ranged : (i : ℕ) → Coordinate (getD xs i (pos 0))
+  pub passed : passes xs ≡ true
+
+-- a number is in a coordinate's range
+abbrev pub inRange : ℤ → Bool
+inRange z = leb (natAbs z) (2 ^ 30)
+
+-- why a list has not the shape of a point: the wrong number of coordinates, then the first one out of range
+abbrev pub misshapen : ℕ → List ℤ → Option PointFault → Option PointFault
+misshapen width xs after =
+    unless (eqb (length xs) width) Count
+    (at (firstWhere (λ i. not (inRange (getD xs i (pos 0)))) 0 (length xs)) Range
+    after)
+
+-- why a list is no point of a kind: its shape, then the kind's test
+abbrev pub refusal : ℕ → (List ℤ → Bool) → List ℤ → Option PointFault
+refusal width passes xs = misshapen width xs (unless (passes xs) Test None)
+
+-- the blend of two points at a of b, coordinate by coordinate
+abbrev pub blendPoint : ℕ → ℕ → List ℤ → List ℤ → List ℤ
+blendPoint a b [] ys = []
+blendPoint a b (x ∷ xs) [] = []
+blendPoint a b (x ∷ xs) (y ∷ ys) = blended x y a b ∷ blendPoint a b xs ys
+
+-- that blend is inexact in some coordinate
+abbrev pub inexactPoint : ℕ → ℕ → List ℤ → List ℤ → Bool
+inexactPoint a b [] ys = false
+inexactPoint a b (x ∷ xs) [] = false
+inexactPoint a b (x ∷ xs) (y ∷ ys) = inexactPoint a b xs ys || inexact x y a b
+
+-- how a flip fills one coordinate: from which, and whether with its negative
+pub record Turn : Type 0 where
+  pub from : ℕ
+  pub negative : Bool
+
+abbrev pub kept : ℕ → Turn
+kept i = record { from = i; negative = false }
+
+abbrev pub negated : ℕ → Turn
+negated i = record { from = i; negative = true }
+
+abbrev pub turned : Turn → List ℤ → ℤ
+turned t xs = cond (t .negative) (negℤ (getD xs (t .from) (pos 0))) (getD xs (t .from) (pos 0))
+
+-- the flip that a list of turns describes, one for each coordinate
+abbrev pub flipped : List Turn → List ℤ → List ℤ
+flipped turns xs = map (λ t. turned t xs) turns
+
+-- two tests of kinds: none, and that the first coordinate is at most the second
+abbrev pub untested : List ℤ → Bool
+untested xs = true
+
+abbrev pub rising : List ℤ → Bool
+rising xs = leZ (getD xs 0 (pos 0)) (getD xs 1 (pos 0))

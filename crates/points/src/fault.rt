@@ -1,0 +1,29 @@
+ghost use mathlib.Core.Path.{_≡_};
+ghost use Rattle.points.specs.Faults.{reported};
+use grid::report::Layer;
+use grid::report::Report;
+
+// Why a list of coordinates is no point of a kind.
+#[derive(Clone, Copy, PartialEq, Eq, Debug)]
+pub enum PointFault {
+    // the wrong number of coordinates
+    Count,
+    // the first coordinate out of range, by its index
+    Range(usize),
+    // the kind's own test failed
+    Test,
+}
+
+impl PointFault {
+    // Number, layer and place.
+    pub fn report(&self) -> Report
+        ensures { λ r. ⌜ r ≡ reported (now (self .entry)) ⌝ }
+    {
+        let place = match *self {
+            PointFault::Count => 0,
+            PointFault::Range(i) => i,
+            PointFault::Test => 0,
+        };
+        Report { number: 10, layer: Layer::Point, place }
+    }
+}

@@ -2,12 +2,12 @@
 use Prim.Native.Nat.{ℕ, zero, suc, _+_, _≤_, _<_}
 use native.Mathlib.Omega.{arith}
 use mathlib.Core.Path.{_≡_, refl, sym, ap, subst, _∙_}
-use mathlib.Core.Bool.{Bool, true, false, cond}
+use mathlib.Core.Bool.{Bool, true, false, cond, _||_}
 use mathlib.Core.Logic.{⊎-elim}
 use Rattle.std.specs.declared.option.Option.{Option}
 use Rattle.std.specs.declared.option.Option.the-variants.{Some, None}
 use Rattle.std.proofs.shelf.Tests.{cases-bool, cases-eq, cond-true, cond-false}
-use Rattle.grid.specs.Search.{firstWhere, lastWhere}
+use Rattle.grid.specs.Search.{firstWhere, lastWhere, anyWhere}
 
 module _ (f : ℕ → Bool) where
   pub first-none : (i n : ℕ) → ((k : ℕ) → i ≤ k → k < i + n → f k ≡ false) → firstWhere f i n ≡ None
@@ -47,3 +47,18 @@ module _ (f : ℕ → Bool) where
         (λ (s : k ≡ n). cond-true (f n) n (lastWhere f n) (ap f (sym s) ∙ e) ∙ sym s)
         (λ ne. cond-false (f n) n (lastWhere f n) (h n (omega arith) (omega arith)) ∙ last-found n k (omega arith) e (λ j a b. h j a (omega arith)))
         (cases-eq k n)
+
+-- one more index in front
+pub any-more : (f : ℕ → Bool) (i j n m : ℕ) → i + 1 ≡ j → n + 1 ≡ m → anyWhere f j n || f i ≡ anyWhere f i m
+any-more f i j n m e g =
+    let a : j ≡ suc i = omega arith in
+    let b : m ≡ suc n = omega arith in
+    ap (λ t. anyWhere f t n || f i) a ∙ ap (anyWhere f i) (sym b)
+
+-- the same test, its indices shifted by m
+pub any-shifted : (f g : ℕ → Bool) (m i n : ℕ) → ((j : ℕ) → i ≤ j → j < i + n → f j ≡ g (m + j)) → anyWhere f i n ≡ anyWhere g (m + i) n
+any-shifted f g m i zero h = refl
+any-shifted f g m i (suc n) h =
+    let e : m + suc i ≡ suc (m + i) = omega arith in
+    let later = any-shifted f g m (suc i) n (λ j p q. h j (omega arith) (omega arith)) in
+    ap (λ x. x || f i) (later ∙ ap (λ x. anyWhere g x n) e) ∙ ap (λ x. anyWhere g (suc (m + i)) n || x) (h i (omega arith) (omega arith))

@@ -1,0 +1,4 @@
+pub mod Rows
+pub mod Sweeps
+pub mod Triangles
+pub mod Shifts

@@ -1,0 +1,3 @@
+//! Pieces on lent slices: reading a point by de Boor's triangle.
+
+mod triangle;

@@ -40,6 +40,17 @@ module _ (f : ℕ → Bool) where
             (cases-eq k i))
         (cases-bool (f i))
 
+  -- what was found lies among the indices searched
+  pub first-within : (i n j : ℕ) → firstWhere f i n ≡ Some j → j < i + n
+  first-within i zero j e = let bad : _≡_ {A = ℕ} 0 1 = cc in absurd (omega arith)
+  first-within i (suc n) j e =
+      ⊎-elim
+        (λ (t : f i ≡ true).
+          let s : Some i ≡ Some j = sym (cond-true (f i) (Some i) (firstWhere f (suc i) n) t) ∙ e in
+          let same : i ≡ j = cc in omega arith)
+        (λ (t : f i ≡ false). let l = first-within (suc i) n j (sym (cond-false (f i) (Some i) (firstWhere f (suc i) n) t) ∙ e) in omega arith)
+        (cases-bool (f i))
+
   pub last-found : (n k : ℕ) → k < n → f k ≡ true → ((j : ℕ) → k < j → j < n → f j ≡ false) → lastWhere f n ≡ k
   last-found zero k p e h = absurd (omega arith)
   last-found (suc n) k p e h =

@@ -1,3 +1,4 @@
 pub mod Clamping
 pub mod Shapes
 pub mod Bands
+pub mod Rowing

@@ -13,14 +13,15 @@ use Rattle.std.specs.declared.option.Option.{Option}
 use Rattle.std.specs.declared.option.Option.the-variants.{Some, None}
 use Rattle.std.proofs.shelf.Counted.{fill-by-all}
 use Rattle.std.proofs.shelf.Lists.{getD-past}
-use Rattle.std.proofs.shelf.Tests.{leb-true, eq-eqb, not-false, cases-lt}
+use Rattle.std.proofs.shelf.Tests.{leb-true, eq-eqb, eqb-true, not-false, cases-lt}
 use Rattle.grid.specs.Blend.{Coordinate}
 use Rattle.grid.specs.Refusals.{unless, at}
 use Rattle.grid.specs.Search.{firstWhere}
-use Rattle.grid.proofs.Searches.{first-none, first-found}
+use Rattle.grid.proofs.Searches.{first-none, first-found, none-where, first-within}
 use Rattle.points.specs.declared.fault.PointFault.{PointFault}
 use Rattle.points.specs.declared.fault.PointFault.the-variants.{Count, Range, Test}
-use Rattle.points.specs.Lists.{inRange, misshapen}
+use Rattle.points.specs.Faults.{reported}
+use Rattle.points.specs.Lists.{IsPoint, inRange, misshapen, refusal}
 use Rattle.points.specs.Stored.{clamped}
 use Rattle.points.proofs.Clamping.{clamped-coordinate}
 
@@ -61,3 +62,40 @@ all-ranged xs all i =
       (λ (l : i < length xs). leb-true _ _ (not-false _ (all i (omega arith) l)))
       (λ (g : length xs ≤ i). subst Coordinate (sym (getD-past xs i (pos 0) g)) (omega arith))
       (cases-lt i (length xs))
+
+some-none : {X : Type 0} {x : X} → Some x ≡ None → ⊥
+some-none e = let bad : _≡_ {A = ℕ} 0 1 = cc in omega arith
+
+-- the three steps of a refusal, where it refuses nothing and where it refuses
+passed-steps : (long : Bool) (wild : Option ℕ) (passed : Bool) → unless long Count (at wild Range (unless passed Test None)) ≡ None → (long ≡ true) × (wild ≡ None) × (passed ≡ true)
+passed-steps true None true e = (refl, refl, refl)
+passed-steps true None false e = absurd (some-none e)
+passed-steps true (Some i) passed e = absurd (some-none e)
+passed-steps false wild passed e = absurd (some-none e)
+
+same-place : (f g : PointFault) (n : ℕ) → Some f ≡ Some g → reported f .place ≤ n → reported g .place ≤ n
+same-place f g n e h = let s : f ≡ g = cc in subst (λ v. reported v .place ≤ n) s h
+
+failed-place : (long : Bool) (wild : Option ℕ) (passed : Bool) (fault : PointFault) (n : ℕ) → ((i : ℕ) → long ≡ true → wild ≡ Some i → i ≤ n)
+    → unless long Count (at wild Range (unless passed Test None)) ≡ Some fault → reported fault .place ≤ n
+failed-place true None true fault n h e = absurd (some-none (sym e))
+failed-place true None false fault n h e = same-place Test fault n e (omega arith)
+failed-place true (Some i) passed fault n h e = same-place (Range i) fault n e (h i refl refl)
+failed-place false wild passed fault n h e = same-place Count fault n e (omega arith)
+
+module _ (width : ℕ) (passes : List ℤ → Bool) (xs : List ℤ) where
+  -- a list that nothing refuses is a point
+  pub accepted : refusal width passes xs ≡ None → IsPoint width passes xs
+  accepted e =
+      let parts = passed-steps (eqb (length xs) width) (firstWhere (out xs) 0 (length xs)) (passes xs) e in
+      record {
+        long = eqb-true _ _ (parts .0);
+        ranged = all-ranged xs (λ k low h. none-where (out xs) 0 (length xs) k (parts .1) low (omega arith));
+        passed = parts .2
+      }
+
+  -- the place of a fault lies within the list
+  pub fault-place : (fault : PointFault) → refusal width passes xs ≡ Some fault → reported fault .place ≤ width
+  fault-place fault e =
+      failed-place (eqb (length xs) width) (firstWhere (out xs) 0 (length xs)) (passes xs) fault width
+        (λ i t f. let l = first-within (out xs) 0 (length xs) i f in let n = eqb-true _ _ t in omega arith) e

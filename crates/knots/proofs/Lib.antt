@@ -1,0 +1,3 @@
+pub mod Lawfuls
+mod Judging
+mod Halving

@@ -86,5 +86,5 @@ lawful p q a b r = record {
   low = above (minZ p q) p q a b r (omega (arith, ints, clamps)) (omega (arith, ints, clamps));
   high = under (maxZ p q) p q a b r (omega (arith, ints, clamps)) (omega (arith, ints, clamps));
   first = at-first p q a b r;
-  last = at-last p q a b r
+  last = at-last p q a b r;
 }

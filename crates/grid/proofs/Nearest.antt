@@ -55,8 +55,8 @@ near z b h = omega (arith, ints, sharp z b h)
 below : (b : ℕ) (m n : ℤ) → b * up n + b * down m < b * up m + b * down n + b → n ≤ℤ m
 below b m n h =
     by-ltZ m n (λ lt.
-        let k : up m + down n + 1 ≤ up n + down m = omega (arith, ints) in
-        absurd (omega (arith, mul-le-mul-left b k, mul-add b (up m + down n) 1, mul-add b (up m) (down n), mul-add b (up n) (down m), mul-one b)))
+    let k : up m + down n + 1 ≤ up n + down m = omega (arith, ints) in
+    absurd (omega (arith, mul-le-mul-left b k, mul-add b (up m + down n) 1, mul-add b (up m) (down n), mul-add b (up n) (down m), mul-one b)))
     (λ le. le)
 
 -- Law: it never falls.
@@ -79,7 +79,7 @@ rounds-up z b h half =
     let e = rest-is z b h in
     let one : up m + down q ≡ up q + down m + 1 = omega (arith, ints, sum-is q (pos 1)) in
     let scaled : b * up m + b * down q ≡ b * up q + b * down m + b =
-          sym (mul-add b (up m) (down q)) ∙ ap (λ n. b * n) one ∙ mul-add b (up q + down m) 1 ∙ ap (λ n. n + b * 1) (mul-add b (up q) (down m)) ∙ ap (λ n. b * up q + b * down m + n) (mul-one b) in
+    sym (mul-add b (up m) (down q)) ∙ ap (λ n. b * n) one ∙ mul-add b (up q + down m) 1 ∙ ap (λ n. n + b * 1) (mul-add b (up q) (down m)) ∙ ap (λ n. b * up q + b * down m + n) (mul-one b) in
     rounds-to z m b h (omega (arith, f, e, scaled, half), omega (arith, f, e, scaled, half))
 
 rounds-down : (z : ℤ) (b : ℕ) → 1 ≤ b → 2 * natAbs (remEuclid z (pos b)) < b → nearest z b ≡ divEuclid z (pos b)
@@ -99,11 +99,11 @@ by-one-division z b h =
     let r = remEuclid z (pos b) in
     let n = remainder-natural z (pos b) in
     ⊎-elim
-      (λ (t : leZ (pos b) (r *ℤ pos 2) ≡ true). rounds-up z b h (omega (arith, ints, n, t)) ∙ ap (λ v. divEuclid z (pos b) +ℤ pos (boolByte v)) (sym t))
-      (λ (t : leZ (pos b) (r *ℤ pos 2) ≡ false).
-        let same : divEuclid z (pos b) ≡ divEuclid z (pos b) +ℤ pos 0 = omega (arith, ints) in
-        rounds-down z b h (omega (arith, ints, n, t)) ∙ same ∙ ap (λ v. divEuclid z (pos b) +ℤ pos (boolByte v)) (sym t))
-      (cases-bool (leZ (pos b) (r *ℤ pos 2)))
+    (λ (t : leZ (pos b) (r *ℤ pos 2) ≡ true). rounds-up z b h (omega (arith, ints, n, t)) ∙ ap (λ v. divEuclid z (pos b) +ℤ pos (boolByte v)) (sym t))
+    (λ (t : leZ (pos b) (r *ℤ pos 2) ≡ false).
+    let same : divEuclid z (pos b) ≡ divEuclid z (pos b) +ℤ pos 0 = omega (arith, ints) in
+    rounds-down z b h (omega (arith, ints, n, t)) ∙ same ∙ ap (λ v. divEuclid z (pos b) +ℤ pos (boolByte v)) (sym t))
+    (cases-bool (leZ (pos b) (r *ℤ pos 2)))
 
 pub rest-bits : (z d : ℤ) → ofZ w64 (remEuclid z d) ≡ natAbs (remEuclid z d)
 rest-bits (pos a) d = refl

@@ -1,3 +1,4 @@
 pub mod Blend
 pub mod Search
 pub mod Refusals
+pub mod Layers

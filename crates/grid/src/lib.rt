@@ -1,4 +1,4 @@
 //! The whole-number grid: the blend of two coordinates, and how a refusal is told.
 
-pub mod report;
 pub mod blend;
+pub mod report;

@@ -12,9 +12,8 @@ use Rattle.points.specs.Lists.{blendPoint, inexactPoint}
 use Rattle.pieces.specs.Triangle.{entry, inexactEntry, inexactRounds, deBoor}
 
 module _ (d : ℕ) (ks near : List ℕ) (ps polygon : List (List ℤ)) (u m : ℕ)
-         (knot : (j : ℕ) → j ≤ d + d → getD near j 0 ≡ getD ks (m + j) 0)
-         (point : (j : ℕ) → j ≤ d → getD polygon j [] ≡ getD ps (m + j) []) where
-
+    (knot : (j : ℕ) → j ≤ d + d → getD near j 0 ≡ getD ks (m + j) 0)
+    (point : (j : ℕ) → j ≤ d → getD polygon j [] ≡ getD ps (m + j) []) where
   -- at entry j of round r + 1 all that a blend takes is the same, once the two entries before are
   corner-shifted : {Y : Type 0} (b : ℕ → ℕ → List ℤ → List ℤ → Y) (r j : ℕ) → suc r ≤ j → j ≤ d
       → entry d near polygon u r (j - 1) ≡ entry d ks ps u r (m + (j - 1)) → entry d near polygon u r j ≡ entry d ks ps u r (m + j)
@@ -38,9 +37,9 @@ module _ (d : ℕ) (ks near : List ℕ) (ps polygon : List (List ℤ)) (u m : �
   rounds-shifted (suc r) h =
       let first : m + (d - d + suc r) ≡ m + d - d + suc r = omega arith in
       let same : anyWhere (inexactEntry d near polygon u r) (d - d + suc r) (d - r) ≡ anyWhere (inexactEntry d ks ps u r) (m + d - d + suc r) (d - r) =
-            any-shifted (inexactEntry d near polygon u r) (inexactEntry d ks ps u r) m (d - d + suc r) (d - r) (λ j low high.
-              corner-shifted inexactPoint r j (omega arith) (omega arith) (entry-shifted r (j - 1) (omega arith) (omega arith)) (entry-shifted r j (omega arith) (omega arith)))
-            ∙ ap (λ i. anyWhere (inexactEntry d ks ps u r) i (d - r)) first in
+      any-shifted (inexactEntry d near polygon u r) (inexactEntry d ks ps u r) m (d - d + suc r) (d - r) (λ j low high.
+      corner-shifted inexactPoint r j (omega arith) (omega arith) (entry-shifted r (j - 1) (omega arith) (omega arith)) (entry-shifted r j (omega arith) (omega arith)))
+      ∙ ap (λ i. anyWhere (inexactEntry d ks ps u r) i (d - r)) first in
       ap (λ n. n + cond (anyWhere (inexactEntry d near polygon u r) (d - d + suc r) (d - r)) 1 0) (rounds-shifted r (omega arith))
       ∙ ap (λ t. inexactRounds d ks ps u (m + d) r + cond t 1 0) same
 

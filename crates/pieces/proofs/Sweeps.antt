@@ -40,10 +40,10 @@ module _ {X : Type 0} (none : X) (make : ℕ → X → X → X) (test : ℕ → 
       let here : found ≡ tested i = rw (a, b) at t in
       record {
         done = λ k l m.
-          ⊎-elim
+            ⊎-elim
             (λ (q : k ≡ i). ap (λ v. getD v k none) new ∙ ap (λ v. getD (set xs i (made i)) v none) q ∙ getD-set-same xs i (made i) none n ∙ ap made (sym q))
             (λ (q : k ≢ i). ap (λ v. getD v k none) new ∙ getD-set-other xs i k (made i) none q ∙ s .done k (omega arith) m)
             (cases-eq k i);
         left = λ k l. let q : k ≢ i = omega arith in ap (λ v. getD v k none) new ∙ getD-set-other xs i k (made i) none q ∙ s .left k (omega arith);
-        seen = ap (λ v. v || found) (s .seen) ∙ ap (λ v. anyWhere tested j (last + 1 - j) || v) here ∙ any-more tested i j (last + 1 - j) (last + 1 - i) e (omega arith)
+        seen = ap (λ v. v || found) (s .seen) ∙ ap (λ v. anyWhere tested j (last + 1 - j) || v) here ∙ any-more tested i j (last + 1 - j) (last + 1 - i) e (omega arith);
       }

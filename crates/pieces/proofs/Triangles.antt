@@ -39,11 +39,11 @@ module _ (d : ℕ) (ks : List ℕ) (ps : List (List ℤ)) (u : ℕ) where
         let from : d - d + suc q ≡ 0 + suc q = omega arith in
         let size : d + 1 - suc q ≡ d - q = omega arith in
         let same : anyWhere test (suc q) (d - q) ≡ anyWhere (inexactEntry d ks ps u q) (0 + suc q) (d - q) =
-              any-shifted test (inexactEntry d ks ps u q) 0 (suc q) (d - q) (λ j low high.
-                let a = h (j - 1) (omega arith) (omega arith) in
-                let b = h j (omega arith) (omega arith) in
-                let z : j ≡ 0 + j = omega arith in
-                ap (λ v. inexactBetween d ks u (suc q) j v (getD xs j [])) a ∙ ap (inexactBetween d ks u (suc q) j (entry d ks ps u q (j - 1))) b ∙ ap (inexactEntry d ks ps u q) z) in
+        any-shifted test (inexactEntry d ks ps u q) 0 (suc q) (d - q) (λ j low high.
+        let a = h (j - 1) (omega arith) (omega arith) in
+        let b = h j (omega arith) (omega arith) in
+        let z : j ≡ 0 + j = omega arith in
+        ap (λ v. inexactBetween d ks u (suc q) j v (getD xs j [])) a ∙ ap (inexactBetween d ks u (suc q) j (entry d ks ps u q (j - 1))) b ∙ ap (inexactEntry d ks ps u q) z) in
         let all : found ≡ anyWhere (inexactEntry d ks ps u q) (d - d + suc q) (d - q) =
-              e ∙ ap (anyWhere test (suc q)) size ∙ same ∙ ap (λ v. anyWhere (inexactEntry d ks ps u q) v (d - q)) (sym from) in
+        e ∙ ap (anyWhere test (suc q)) size ∙ same ∙ ap (λ v. anyWhere (inexactEntry d ks ps u q) v (d - q)) (sym from) in
         ap (λ v. inexactRounds d ks ps u d q + v) (one found ∙ ap (λ v. cond v 1 0) all)

@@ -44,14 +44,14 @@ module _ (d count : ℕ) (ks : List ℕ) (u k : ℕ) (law : Lawful d count ks) (
         degree = lawful-degree d count ks law;
         long = omega arith;
         below = λ j a b.
-          let e = at j (omega arith) in
-          let r = lawful-rises d count ks law (m + j) k (omega arith) (omega arith) in
-          omega arith;
+            let e = at j (omega arith) in
+            let r = lawful-rises d count ks law (m + j) k (omega arith) (omega arith) in
+            omega arith;
         above = λ j a b.
-          let e = at j b in
-          let r = lawful-rises d count ks law (suc k) (m + j) (omega arith) (omega arith) in
-          let t = lawful-range d count ks law (m + j) (omega arith) in
-          (omega arith, omega arith)
+            let e = at j b in
+            let r = lawful-rises d count ks law (suc k) (m + j) (omega arith) (omega arith) in
+            let t = lawful-range d count ks law (m + j) (omega arith) in
+            (omega arith, omega arith);
       }
 
   -- the triangle over the parts is that of the whole piece
@@ -64,6 +64,6 @@ module _ (d count : ℕ) (ks : List ℕ) (u k : ℕ) (law : Lawful d count ks) (
       let part : map told (take (d + 1) (drop m xs)) ≡ take (d + 1) (drop m (map told xs)) = sym (take-map told (d + 1) (drop m xs)) ∙ ap (take (d + 1)) (sym (drop-map told m xs)) in
       ap (λ v. deBoor d (take (d + d + 1) (drop m ks)) v u d) part
       ∙ deBoor-shifted d ks (take (d + d + 1) (drop m ks)) (map told xs) (take (d + 1) (drop m (map told xs))) u m
-          (λ j h. part-at ks m (d + d + 1) j 0 (omega arith))
-          (λ j h. part-at (map told xs) m (d + 1) j [] (omega arith))
+      (λ j h. part-at ks m (d + d + 1) j 0 (omega arith))
+      (λ j h. part-at (map told xs) m (d + 1) j [] (omega arith))
       ∙ ap (deBoor d ks (map told xs) u) ends

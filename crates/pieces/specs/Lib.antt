@@ -1,2 +1,4 @@
+pub mod Faults
+pub mod Sections
 pub mod Triangle
 pub mod Reading

@@ -1,4 +1,6 @@
-//! Pieces on lent slices: reading a point by de Boor's triangle.
+//! Pieces on lent slices: laying a section, and reading a point by de Boor's triangle.
 
-mod triangle;
+pub mod fault;
 pub mod reading;
+pub mod section;
+mod triangle;

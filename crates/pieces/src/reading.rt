@@ -20,11 +20,21 @@ fn read_span<P: Point>(degree: usize, knots: &[u32], points: &[P], u: u32, k: us
     ensures { λ r. ⌜ (told (r .0), r .1) ≡ deBoor degree (now (knots .entry)) (map told (now (points .entry))) u k ⌝ }
 {
     let first = k - degree;
-    triangle(&points[first..k + 1], &knots[first..k + degree + 1], degree, u)
+    triangle(
+        &points[first..k + 1],
+        &knots[first..k + degree + 1],
+        degree,
+        u,
+    )
 }
 
 // The point of a piece at u, and the number of rounds that hold an inexact blend.
-pub fn read<P: Point>(degree: usize, knots: &[u32], points: &[P], u: i64) -> Result<(P, usize), PieceFault>
+pub fn read<P: Point>(
+    degree: usize,
+    knots: &[u32],
+    points: &[P],
+    u: i64,
+) -> Result<(P, usize), PieceFault>
     requires { ⌜ Lawful degree (length (now points)) (now knots) ⌝ }
     ensures { λ r. ⌜ Cases r
         (λ v. reading degree (now (knots .entry)) (map told (now (points .entry))) u ≡ Some (told (v .0), v .1))

@@ -67,7 +67,12 @@ fn fill<P: Point>(room: &mut [P], polygon: &[P], knots: &[u32], degree: usize, u
 }
 
 // The triangle in a room of a size that the compiler knows, and with it the number of rounds.
-fn in_room<P: Point, const ROOM: usize>(polygon: &[P], knots: &[u32], degree: usize, u: u32) -> (P, usize)
+fn in_room<P: Point, const ROOM: usize>(
+    polygon: &[P],
+    knots: &[u32],
+    degree: usize,
+    u: u32,
+) -> (P, usize)
     requires around { ⌜ Around degree (now knots) u ⌝ }
     requires polygon { ⌜ length (now polygon) ≡ degree + 1 ⌝ }
     requires room { ⌜ ROOM ≡ degree + 1 ⌝ }

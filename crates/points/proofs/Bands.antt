@@ -38,8 +38,8 @@ in-order x y h =
 pub rising-blend : (a b : ℕ) (xs ys : List ℤ) → Ratio a b → IsPoint 2 rising xs → IsPoint 2 rising ys → rising (blendPoint a b xs ys) ≡ true
 rising-blend a b xs ys r p q =
     subst (λ v. rising (blendPoint a b v ys) ≡ true) (rebuilt 2 xs (p .long))
-      (subst (λ v. rising (blendPoint a b (getD xs 0 (pos 0) ∷ (getD xs 1 (pos 0) ∷ [])) v) ≡ true) (rebuilt 2 ys (q .long))
-        (at-most _ _ (blends.rising _ _ _ _ a b r (from-test _ _ (p .passed)) (from-test _ _ (q .passed)))))
+    (subst (λ v. rising (blendPoint a b (getD xs 0 (pos 0) ∷ (getD xs 1 (pos 0) ∷ [])) v) ≡ true) (rebuilt 2 ys (q .long))
+    (at-most _ _ (blends.rising _ _ _ _ a b r (from-test _ _ (p .passed)) (from-test _ _ (q .passed)))))
 
 -- the blends of the lesser and of the greater ends come in order
 pub blend-in-order : (l h l′ h′ : ℤ) (a b : ℕ) → Ratio a b → blended (minZ l h) (minZ l′ h′) a b ≤ℤ blended (maxZ l h) (maxZ l′ h′) a b

@@ -59,9 +59,9 @@ module _ (xs : List ℤ) (width : ℕ) (e : length xs ≡ width) (after : Option
 pub all-ranged : (xs : List ℤ) → ((k : ℕ) → 0 ≤ k → k < length xs → out xs k ≡ false) → (i : ℕ) → Coordinate (getD xs i (pos 0))
 all-ranged xs all i =
     ⊎-elim
-      (λ (l : i < length xs). leb-true _ _ (not-false _ (all i (omega arith) l)))
-      (λ (g : length xs ≤ i). subst Coordinate (sym (getD-past xs i (pos 0) g)) (omega arith))
-      (cases-lt i (length xs))
+    (λ (l : i < length xs). leb-true _ _ (not-false _ (all i (omega arith) l)))
+    (λ (g : length xs ≤ i). subst Coordinate (sym (getD-past xs i (pos 0) g)) (omega arith))
+    (cases-lt i (length xs))
 
 some-none : {X : Type 0} {x : X} → Some x ≡ None → ⊥
 some-none e = let bad : _≡_ {A = ℕ} 0 1 = cc in omega arith
@@ -91,11 +91,11 @@ module _ (width : ℕ) (passes : List ℤ → Bool) (xs : List ℤ) where
       record {
         long = eqb-true _ _ (parts .0);
         ranged = all-ranged xs (λ k low h. none-where (out xs) 0 (length xs) k (parts .1) low (omega arith));
-        passed = parts .2
+        passed = parts .2;
       }
 
   -- the place of a fault lies within the list
   pub fault-place : (fault : PointFault) → refusal width passes xs ≡ Some fault → reported fault .place ≤ width
   fault-place fault e =
       failed-place (eqb (length xs) width) (firstWhere (out xs) 0 (length xs)) (passes xs) fault width
-        (λ i t f. let l = first-within (out xs) 0 (length xs) i f in let n = eqb-true _ _ t in omega arith) e
+      (λ i t f. let l = first-within (out xs) 0 (length xs) i f in let n = eqb-true _ _ t in omega arith) e

@@ -67,9 +67,9 @@ turned t xs = cond (t .negative) (negℤ (getD xs (t .from) (pos 0))) (getD xs (
 abbrev pub flipped : List Turn → List ℤ → List ℤ
 flipped turns xs = map (λ t. turned t xs) turns
 
--- two tests of kinds: none, and that the first coordinate is at most the second
-abbrev pub untested : List ℤ → Bool
-untested xs = true
+-- two tests of kinds: none at all, and that the first coordinate is at most the second
+abbrev pub unconditional : List ℤ → Bool
+unconditional xs = true
 
 abbrev pub rising : List ℤ → Bool
 rising xs = leZ (getD xs 0 (pos 0)) (getD xs 1 (pos 0))

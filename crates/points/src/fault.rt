@@ -10,7 +10,7 @@ pub enum PointFault {
     Count,
     // the first coordinate out of range, by its index
     Range(usize),
-    // the kind's own test failed
+    // the condition of the kind failed
     Test,
 }
 
@@ -24,6 +24,10 @@ impl PointFault {
             PointFault::Range(i) => i,
             PointFault::Test => 0,
         };
-        Report { number: 10, layer: Layer::Point, place }
+        Report {
+            number: 10,
+            layer: Layer::Point,
+            place,
+        }
     }
 }

@@ -5,7 +5,7 @@ ghost use mathlib.Core.List.{[], _∷_};
 ghost use mathlib.Core.Path.{_≡_};
 ghost use lib.IntN.{ℤ};
 ghost use Rattle.std.specs.Numbers.{minZ, maxZ};
-ghost use Rattle.points.specs.Lists.{untested, rising, kept, negated};
+ghost use Rattle.points.specs.Lists.{unconditional, rising, kept, negated};
 ghost use Rattle.points.specs.Stored.{clamped};
 use crate::point::Point;
 use crate::stored::mix;
@@ -27,7 +27,7 @@ pub impl Point for PlanePoint as PlaneKind {
 
     ghost told = { λ p. clamped (p .x) ∷ (clamped (p .y) ∷ []) };
 
-    ghost passes = { untested };
+    ghost passes = { unconditional };
 
     ghost turns = { negated 0 ∷ (kept 1 ∷ []) };
 
@@ -35,12 +35,15 @@ pub impl Point for PlanePoint as PlaneKind {
         Self::WIDTH
     }
 
-    fn test(_xs: &[i64]) -> bool {
+    fn admits(_xs: &[i64]) -> bool {
         true
     }
 
     fn of(xs: &[i64]) -> PlanePoint {
-        PlanePoint { x: store(xs, 0), y: store(xs, 1) }
+        PlanePoint {
+            x: store(xs, 0),
+            y: store(xs, 1),
+        }
     }
 
     fn coordinate(&self, i: usize) -> i32 {
@@ -58,7 +61,10 @@ pub impl Point for PlanePoint as PlaneKind {
     }
 
     fn flip(self) -> PlanePoint {
-        PlanePoint { x: opposite(self.x), y: self.y }
+        PlanePoint {
+            x: opposite(self.x),
+            y: self.y,
+        }
     }
 }
 
@@ -77,7 +83,7 @@ pub impl Point for SpacePoint as SpaceKind {
 
     ghost told = { λ p. clamped (p .x) ∷ (clamped (p .y) ∷ (clamped (p .z) ∷ [])) };
 
-    ghost passes = { untested };
+    ghost passes = { unconditional };
 
     ghost turns = { negated 0 ∷ (kept 1 ∷ (kept 2 ∷ [])) };
 
@@ -85,12 +91,16 @@ pub impl Point for SpacePoint as SpaceKind {
         Self::WIDTH
     }
 
-    fn test(_xs: &[i64]) -> bool {
+    fn admits(_xs: &[i64]) -> bool {
         true
     }
 
     fn of(xs: &[i64]) -> SpacePoint {
-        SpacePoint { x: store(xs, 0), y: store(xs, 1), z: store(xs, 2) }
+        SpacePoint {
+            x: store(xs, 0),
+            y: store(xs, 1),
+            z: store(xs, 2),
+        }
     }
 
     fn coordinate(&self, i: usize) -> i32 {
@@ -106,11 +116,22 @@ pub impl Point for SpacePoint as SpaceKind {
         let x = mix(self.x, other.x, a, b);
         let y = mix(self.y, other.y, a, b);
         let z = mix(self.z, other.z, a, b);
-        (SpacePoint { x: x.0, y: y.0, z: z.0 }, z.1 | y.1 | x.1)
+        (
+            SpacePoint {
+                x: x.0,
+                y: y.0,
+                z: z.0,
+            },
+            z.1 | y.1 | x.1,
+        )
     }
 
     fn flip(self) -> SpacePoint {
-        SpacePoint { x: opposite(self.x), y: self.y, z: self.z }
+        SpacePoint {
+            x: opposite(self.x),
+            y: self.y,
+            z: self.z,
+        }
     }
 }
 
@@ -124,7 +145,7 @@ pub struct Band {
 
 impl Band {
     // The lesser of the two as told.
-    fn least(&self) -> i32
+    fn lesser(&self) -> i32
         ensures value { λ r. ⌜ r ≡ minZ (clamped (now (self .entry) .low)) (clamped (now (self .entry) .high)) ⌝ }
         ensures kept { λ r. ⌜ clamped r ≡ minZ (clamped (now (self .entry) .low)) (clamped (now (self .entry) .high)) ⌝ }
     {
@@ -132,7 +153,7 @@ impl Band {
     }
 
     // The greater of the two as told.
-    fn greatest(&self) -> i32
+    fn greater(&self) -> i32
         ensures value { λ r. ⌜ r ≡ maxZ (clamped (now (self .entry) .low)) (clamped (now (self .entry) .high)) ⌝ }
         ensures kept { λ r. ⌜ clamped r ≡ maxZ (clamped (now (self .entry) .low)) (clamped (now (self .entry) .high)) ⌝ }
     {
@@ -155,29 +176,41 @@ pub impl Point for Band as BandKind {
         Self::WIDTH
     }
 
-    fn test(xs: &[i64]) -> bool {
+    fn admits(xs: &[i64]) -> bool {
         xs[0] <= xs[1]
     }
 
     fn of(xs: &[i64]) -> Band {
-        Band { low: store(xs, 0), high: store(xs, 1) }
+        Band {
+            low: store(xs, 0),
+            high: store(xs, 1),
+        }
     }
 
     fn coordinate(&self, i: usize) -> i32 {
         match i {
-            0 => self.least(),
-            1 => self.greatest(),
+            0 => self.lesser(),
+            1 => self.greater(),
             _ => 0,
         }
     }
 
     fn blend(&self, other: &Band, a: u32, b: u32) -> (Band, bool) {
-        let low = mix(self.least(), other.least(), a, b);
-        let high = mix(self.greatest(), other.greatest(), a, b);
-        (Band { low: low.0, high: high.0 }, high.1 | low.1)
+        let low = mix(self.lesser(), other.lesser(), a, b);
+        let high = mix(self.greater(), other.greater(), a, b);
+        (
+            Band {
+                low: low.0,
+                high: high.0,
+            },
+            high.1 | low.1,
+        )
     }
 
     fn flip(self) -> Band {
-        Band { low: opposite(self.high), high: opposite(self.low) }
+        Band {
+            low: opposite(self.high),
+            high: opposite(self.low),
+        }
     }
 }

@@ -20,7 +20,7 @@ pub trait Point: Copy {
 
     ghost told: { Self → List ℤ };
 
-    // the kind's test
+    // the condition that the kind sets
     ghost passes: { List ℤ → Bool };
 
     // the kind's flip, coordinate by coordinate
@@ -40,8 +40,8 @@ pub trait Point: Copy {
     fn wide() -> usize
         ensures { λ r. ⌜ r ≡ width ⌝ };
 
-    // Whether a list of the kind's width passes its test.
-    fn test(xs: &[i64]) -> bool
+    // Whether a list of the kind's width passes the condition of the kind.
+    fn admits(xs: &[i64]) -> bool
         requires { ⌜ length (now xs) ≡ width ⌝ }
         ensures { λ r. ⌜ r ≡ passes (now (xs .entry)) ⌝ };
 
@@ -55,7 +55,7 @@ pub trait Point: Copy {
         ensures { λ r. ⌜ Cases r (λ p. (refusal width passes (now (xs .entry)) ≡ None) × (told p ≡ now (xs .entry))) (λ e. refusal width passes (now (xs .entry)) ≡ Some e) ⌝ }
     {
         shape(xs, Self::wide())?;
-        if Self::test(xs) {
+        if Self::admits(xs) {
             Ok(Self::of(xs))
         } else {
             Err(PointFault::Test)

@@ -25,5 +25,5 @@ returns c =
     record {
       value = simp toZ-ofZ value;
       inexact = rough;
-      law = simp toZ-ofZ (subst (λ x. BlendLaw p q a b m x) (sym rough) (subst (λ x. BlendLaw p q a b x (inexact p q a b)) (sym value) (lawful p q a b (c .pre .ratio))))
+      law = simp toZ-ofZ (subst (λ x. BlendLaw p q a b m x) (sym rough) (subst (λ x. BlendLaw p q a b x (inexact p q a b)) (sym value) (lawful p q a b (c .pre .ratio))));
     }

@@ -24,11 +24,11 @@ returns c =
     let fy : SFits w64 y = search needs in
     let fs : SFits w64 (x +ℤ y) = omega (arith, ints) in
     let sum : x +ℤ y ≡ weighted (c .args .p) (c .args .q) (c .args .a) (c .args .b) =
-          ap (λ t. t +ℤ y) vx ∙ ap (λ t. (pos (c .args .b - c .args .a) *ℤ c .args .p) +ℤ t) vy in
+    ap (λ t. t +ℤ y) vx ∙ ap (λ t. (pos (c .args .b - c .args .a) *ℤ c .args .p) +ℤ t) vy in
     let value : c .rounded .result .0 ≡ blended (c .args .p) (c .args .q) (c .args .a) (c .args .b) =
-          (simp toZ-ofZ at (c .rounded .ensures .value)) ∙ ap (λ z. nearest z (c .args .b)) sum in
+    (simp toZ-ofZ at (c .rounded .ensures .value)) ∙ ap (λ z. nearest z (c .args .b)) sum in
     record {
       value = value;
       inexact = (simp toZ-ofZ at (c .rounded .ensures .inexact)) ∙ ap (λ z. fractional z (c .args .b)) sum;
-      coordinate = subst Coordinate (sym value) (coordinate (c .args .p) (c .args .q) (c .args .a) (c .args .b) (c .pre .ratio) (c .pre .left) (c .pre .right))
+      coordinate = subst Coordinate (sym value) (coordinate (c .args .p) (c .args .q) (c .args .a) (c .args .b) (c .pre .ratio) (c .pre .left) (c .pre .right));
     }

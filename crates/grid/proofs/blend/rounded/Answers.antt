@@ -32,8 +32,8 @@ returns c =
     let eq : q ≡ divEuclid z (pos b) = (simp toZ-ofZ at (c .div-euclid-floor .ensures)) ∙ ap (divEuclid z) (c .from-b .ensures) in
     let er : r ≡ remEuclid z (pos b) = (simp toZ-ofZ at (c .rem-euclid-rest .ensures .value)) ∙ ap (remEuclid z) (c .from-b .ensures) in
     let eu : up ≡ pos (boolByte (leZ (pos b) (remEuclid z (pos b) *ℤ pos 2))) =
-          (simp toZ-ofZ at (c .from .ensures)) ∙ ap (λ y. pos (boolByte (leZ y (r *ℤ pos 2)))) (c .from-b .ensures) ∙ ap (λ y. pos (boolByte (leZ (pos b) (y *ℤ pos 2)))) er in
+    (simp toZ-ofZ at (c .from .ensures)) ∙ ap (λ y. pos (boolByte (leZ y (r *ℤ pos 2)))) (c .from-b .ensures) ∙ ap (λ y. pos (boolByte (leZ (pos b) (y *ℤ pos 2)))) er in
     record {
       value = simp toZ-ofZ (ap (λ y. y +ℤ up) eq ∙ ap (λ y. divEuclid z (pos b) +ℤ y) eu ∙ sym (by-one-division z b (c .pre .some)));
-      inexact = ap (λ n. not (eqb (ofZ w64 n) 0)) er ∙ ap (λ n. not (eqb n 0)) (rest-bits z (pos b))
+      inexact = ap (λ n. not (eqb (ofZ w64 n) 0)) er ∙ ap (λ n. not (eqb n 0)) (rest-bits z (pos b));
     }

@@ -23,7 +23,7 @@ triangle-requires g c κs =
     let deep = c .pre .span .deep in
     record {
       around = subst (λ v. Around d (take v (drop (k - d) ks)) u) (sym (knots-size d n ks u k (c .pre .lawful) (c .pre .span))) (around d n ks u k (c .pre .lawful) (c .pre .span));
-      polygon = part-length (c .args .points .now) (k - d) (k + 1 - (k - d)) (omega arith) ∙ points-size d n ks u k (c .pre .lawful) (c .pre .span)
+      polygon = part-length (c .args .points .now) (k - d) (k + 1 - (k - d)) (omega arith) ∙ points-size d n ks u k (c .pre .lawful) (c .pre .span);
     }
 
 pub returns : need.returns

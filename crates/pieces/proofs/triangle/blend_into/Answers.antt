@@ -16,5 +16,5 @@ returns g c =
     let q : told (c .index-room-j-2 .result) ≡ getD (map told room) j [] = told-at told room j (c .index-room-j-2 .result) [] (omega arith) (c .index-room-j-2 .is) in
     record {
       room = map-set told room j (c .blend-mean .result .0) ∙ ap (set (map told room) j) (rw (p, q) at (c .blend-mean .ensures .value));
-      inexact = rw (p, q) at (c .blend-mean .ensures .inexact)
+      inexact = rw (p, q) at (c .blend-mean .ensures .inexact);
     }

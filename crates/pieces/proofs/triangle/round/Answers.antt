@@ -25,10 +25,11 @@ loop-j-again g c =
     let j = c .loop-j .j in
     let i = j - 1 in
     let e : i + 1 ≡ j = omega arith in
-    let n : i < length xs = simp length-map (omega arith) in
-    ( omega arith
-    , swept-more [] make test (c .args .degree) old xs (map told (c .blend-into-found .last .room)) i j _ _ e (omega arith) (omega arith) n (c .loop-j .inv .1)
-        (c .blend-into-found .ensures .room) (c .blend-into-found .ensures .inexact) )
+    let n : i < length xs = simp length-map (omega arith) in (
+      omega arith,
+      swept-more [] make test (c .args .degree) old xs (map told (c .blend-into-found .last .room)) i j _ _ e (omega arith) (omega arith) n (c .loop-j .inv .1)
+          (c .blend-into-found .ensures .room) (c .blend-into-found .ensures .inexact),
+    )
 
 pub returns : need.returns
 returns g c =
@@ -40,5 +41,5 @@ returns g c =
     let s = c .loop-j .inv .1 in
     record {
       entries = λ j h l. s .done j (omega arith) l;
-      inexact = s .seen ∙ ap (λ v. anyWhere (tested [] make test d old) v (d + 1 - v)) e
+      inexact = s .seen ∙ ap (λ v. anyWhere (tested [] make test d old) v (d + 1 - v)) e;
     }

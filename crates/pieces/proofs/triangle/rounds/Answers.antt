@@ -32,14 +32,15 @@ loop-r-again g c =
     let e : r ≡ suc q = omega arith in
     let f : suc q ≡ r + 1 - 1 = omega arith in
     let made : (j : ℕ) → suc q ≤ j → j ≤ d → getD ys j [] ≡ between d ks u (suc q) j (getD xs (j - 1) []) (getD xs j []) =
-          subst (λ v. (j : ℕ) → v ≤ j → j ≤ d → getD ys j [] ≡ between d ks u v j (getD xs (j - 1) []) (getD xs j [])) e (c .round-inexact .ensures .entries) in
+    subst (λ v. (j : ℕ) → v ≤ j → j ≤ d → getD ys j [] ≡ between d ks u v j (getD xs (j - 1) []) (getD xs j [])) e (c .round-inexact .ensures .entries) in
     let seen : found ≡ anyWhere (λ j. inexactBetween d ks u (suc q) j (getD xs (j - 1) []) (getD xs j [])) (suc q) (d + 1 - suc q) =
-          subst (λ v. found ≡ anyWhere (λ j. inexactBetween d ks u v j (getD xs (j - 1) []) (getD xs j [])) v (d + 1 - v)) e (c .round-inexact .ensures .inexact) in
-    let stand = c .loop-r .inv .1 in
-    ( omega arith
-    , subst (λ v. Stands d ks ps u v ys) f (stands-more d ks ps u q xs stand ys made)
-    , ap (λ v. v + c .from-count .result) (c .loop-r .inv .2) ∙ ap (λ v. inexactRounds d ks ps u d q + v) (c .from-count .ensures)
-        ∙ rounds-more d ks ps u q xs stand found (omega arith) seen ∙ ap (inexactRounds d ks ps u d) f )
+    subst (λ v. found ≡ anyWhere (λ j. inexactBetween d ks u v j (getD xs (j - 1) []) (getD xs j [])) v (d + 1 - v)) e (c .round-inexact .ensures .inexact) in
+    let stand = c .loop-r .inv .1 in (
+      omega arith,
+      subst (λ v. Stands d ks ps u v ys) f (stands-more d ks ps u q xs stand ys made),
+      ap (λ v. v + c .from-count .result) (c .loop-r .inv .2) ∙ ap (λ v. inexactRounds d ks ps u d q + v) (c .from-count .ensures)
+          ∙ rounds-more d ks ps u q xs stand found (omega arith) seen ∙ ap (inexactRounds d ks ps u d) f,
+    )
 
 pub returns : need.returns
 unfolding deBoor
@@ -49,8 +50,8 @@ returns g c =
     let ps = map told (c .args .room .now) in
     let e : c .loop-r .r - 1 ≡ d = omega arith in
     let point : told (c .index-room-degree .result) ≡ entry d (c .args .knots .now) ps (c .args .u) d d =
-          told-at told (c .loop-r .room) d (c .index-room-degree .result) [] (omega arith) (c .index-room-degree .is)
-          ∙ c .loop-r .inv .1 d (omega arith) (omega arith) ∙ ap (λ v. entry d (c .args .knots .now) ps (c .args .u) v d) e in
+    told-at told (c .loop-r .room) d (c .index-room-degree .result) [] (omega arith) (c .index-room-degree .is)
+    ∙ c .loop-r .inv .1 d (omega arith) (omega arith) ∙ ap (λ v. entry d (c .args .knots .now) ps (c .args .u) v d) e in
     let count : c .loop-r .count ≡ inexactRounds d (c .args .knots .now) ps (c .args .u) d d =
-          c .loop-r .inv .2 ∙ ap (inexactRounds d (c .args .knots .now) ps (c .args .u) d) e in
+    c .loop-r .inv .2 ∙ ap (inexactRounds d (c .args .knots .now) ps (c .args .u) d) e in
     cc

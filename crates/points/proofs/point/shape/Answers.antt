@@ -32,7 +32,8 @@ returns-then-not-in-range c =
 
 pub returns : need.returns
 returns c =
-    let xs = c .args .xs .now in
-    ( out-nowhere xs (c .args .width) (c .if-xs-width .left) None (λ k low h. c .loop-i .inv k low (omega arith))
-    , c .if-xs-width .left
-    , all-ranged xs (λ k low h. c .loop-i .inv k low (omega arith)) )
+    let xs = c .args .xs .now in (
+      out-nowhere xs (c .args .width) (c .if-xs-width .left) None (λ k low h. c .loop-i .inv k low (omega arith)),
+      c .if-xs-width .left,
+      all-ranged xs (λ k low h. c .loop-i .inv k low (omega arith)),
+    )

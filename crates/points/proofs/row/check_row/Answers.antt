@@ -17,10 +17,11 @@ loop-xs-again g c =
     let lists = c .args .lists .now in
     let i = c .loop-xs .xs-index in
     let narrow = g .P·Point·met .narrow in
-    let w : c .wide-before .result ≡ width = c .wide-before .ensures in
-    ( omega arith
-    , c .loop-xs .inv .1 ∙ rest-more width passes now lists _ (c .loop-xs .before) i (c .loop-xs-test .taken) (c .in-Ok .ensures tt .0)
-        ∙ ap (λ n. rowRefusal width passes (c .loop-xs .before + n) (map now (drop (i + 1) lists))) (sym w) )
+    let w : c .wide-before .result ≡ width = c .wide-before .ensures in (
+      omega arith,
+      c .loop-xs .inv .1 ∙ rest-more width passes now lists _ (c .loop-xs .before) i (c .loop-xs-test .taken) (c .in-Ok .ensures tt .0)
+          ∙ ap (λ n. rowRefusal width passes (c .loop-xs .before + n) (map now (drop (i + 1) lists))) (sym w),
+    )
 
 pub placed-requires : need.placed-requires
 placed-requires g c κs =

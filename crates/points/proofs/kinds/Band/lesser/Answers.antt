@@ -1,6 +1,6 @@
 use borrow.Author.Needs.{needs}
 use Rattle.points.proofs.Clamping.{telling}
-use Rattle.points.proofs.kinds.Band.greatest.Needs as need
+use Rattle.points.proofs.kinds.Band.lesser.Needs as need
 
 pub returns : need.returns
 returns c = search (needs, telling)

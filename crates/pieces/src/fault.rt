@@ -1,0 +1,41 @@
+ghost use mathlib.Core.Path.{_≡_};
+ghost use Rattle.pieces.specs.Faults.{reported};
+ghost use Rattle.pieces.specs.declared.fault.SectionFault.the-variants.{Piece, Point};
+use grid::report::Report;
+use knots::fault::PieceFault;
+use points::fault::PointFault;
+
+// Why a drawing makes no section: the fault of the layer that found it, carried whole.
+#[derive(Clone, Copy)]
+pub enum SectionFault {
+    Piece(PieceFault),
+    Point(PointFault),
+}
+
+pub impl From<PieceFault> for SectionFault as SectionFaultFromPiece {
+    ghost converts = { λ e r. r ≡ Piece e };
+
+    fn from(e: PieceFault) -> SectionFault {
+        SectionFault::Piece(e)
+    }
+}
+
+pub impl From<PointFault> for SectionFault as SectionFaultFromPoint {
+    ghost converts = { λ e r. r ≡ Point e };
+
+    fn from(e: PointFault) -> SectionFault {
+        SectionFault::Point(e)
+    }
+}
+
+impl SectionFault {
+    // Number, layer and place.
+    pub fn report(&self) -> Report
+        ensures { λ r. ⌜ r ≡ reported (now (self .entry)) ⌝ }
+    {
+        match self {
+            SectionFault::Piece(e) => e.report(),
+            SectionFault::Point(e) => e.report(),
+        }
+    }
+}

@@ -63,6 +63,7 @@ fn show_readings<P: Point>(
     requires lawful { ⌜ Lawful (now list .degree) (length (now points)) (take (now list .count + now list .degree + 1) (now list .knots)) ⌝ }
     requires few { ⌜ now list .count + now list .degree + 1 ≤ 70 ⌝ }
 {
+    println!(rt, "parameter, coordinates, inexact rounds:")?;
     let start = list.knots[0];
     let end = list.knots[list.count];
     for u in start..end {

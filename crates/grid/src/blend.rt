@@ -40,8 +40,8 @@ fn mean(p: i32, q: i32, a: u32, b: u32) -> (i64, bool)
     rounded(scaled(b - a, p) + scaled(a, q), b)
 }
 
-// The blend of the coordinates p and q at a of b, and whether it is inexact.
-pub fn blend(p: i32, q: i32, a: u32, b: u32) -> (i32, bool)
+// The mean as a coordinate, with the laws that it keeps.
+fn settled(p: i32, q: i32, a: u32, b: u32) -> (i32, bool)
     requires left { ⌜ Coordinate p ⌝ }
     requires right { ⌜ Coordinate q ⌝ }
     requires ratio { ⌜ Ratio a b ⌝ }
@@ -51,4 +51,16 @@ pub fn blend(p: i32, q: i32, a: u32, b: u32) -> (i32, bool)
 {
     let (mean, inexact) = mean(p, q, a, b);
     (mean as i32, inexact)
+}
+
+// The blend of the coordinates p and q at a of b, and whether it is inexact.
+pub fn blend(p: i32, q: i32, a: u32, b: u32) -> (i32, bool)
+    requires left { ⌜ Coordinate p ⌝ }
+    requires right { ⌜ Coordinate q ⌝ }
+    requires ratio { ⌜ Ratio a b ⌝ }
+    ensures value { λ r. ⌜ r .0 ≡ blended p q a b ⌝ }
+    ensures inexact { λ r. ⌜ r .1 ≡ inexact p q a b ⌝ }
+    ensures law { λ r. ⌜ BlendLaw p q a b (r .0) (r .1) ⌝ }
+{
+    settled(p, q, a, b)
 }

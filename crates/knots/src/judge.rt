@@ -112,8 +112,8 @@ fn judge_order(knots: &[u32]) -> Result<(), PieceFault>
         (λ _. firstFall (now (knots .entry)) ≡ None)
         (λ e. (i : ℕ) × (firstFall (now (knots .entry)) ≡ Some i) × (e ≡ KnotFalls i)) ⌝ }
 {
-    for i in 1..knots.len() {
-        if knots[i] < knots[i - 1] {
+    for (i, knot) in knots.iter().enumerate() {
+        if i > 0 && *knot < knots[i - 1] {
             return Err(PieceFault::KnotFalls(i));
         }
     }

@@ -15,16 +15,16 @@ pub enum SectionFault {
 pub impl From<PieceFault> for SectionFault as SectionFaultFromPiece {
     ghost converts = { λ e r. r ≡ Piece e };
 
-    fn from(e: PieceFault) -> SectionFault {
-        SectionFault::Piece(e)
+    fn from(fault: PieceFault) -> SectionFault {
+        SectionFault::Piece(fault)
     }
 }
 
 pub impl From<PointFault> for SectionFault as SectionFaultFromPoint {
     ghost converts = { λ e r. r ≡ Point e };
 
-    fn from(e: PointFault) -> SectionFault {
-        SectionFault::Point(e)
+    fn from(fault: PointFault) -> SectionFault {
+        SectionFault::Point(fault)
     }
 }
 

@@ -7,7 +7,7 @@ use mir.Val.{SFits}
 use Rattle.std.proofs.shelf.Signed.{toZ-ofZ}
 use Rattle.grid.specs.Blend.{BlendLaw, blended, inexact}
 use Rattle.grid.proofs.Blends.{lawful}
-use Rattle.grid.proofs.blend.blend.Needs as need
+use Rattle.grid.proofs.blend.settled.Needs as need
 
 pub returns : need.returns
 returns c =

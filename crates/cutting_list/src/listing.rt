@@ -2,11 +2,11 @@ ghost use mathlib.Core.Path.{_≡_};
 ghost use Prim.Native.Nat.{_+_, _≤_};
 ghost use lib.ListN.{length, take};
 ghost use Rattle.knots.specs.Lawful.{Lawful};
-use grid::report::Report;
 use knots::list::KnotList;
 use pieces::reading::read;
 use pieces::section::lay;
 use points::point::Point;
+use refusals::report::Report;
 use std::io;
 
 // A section as a draughtsman gives it, nothing of it checked; a cutting list reads it at every

@@ -11,13 +11,13 @@ use drawings::INVERTED_BAND;
 use drawings::LOOSE_END;
 use drawings::PLANE;
 use drawings::SPACE;
+use kinds::band::Band;
+use kinds::band::BandKind;
+use kinds::plane::PlaneKind;
+use kinds::plane::PlanePoint;
+use kinds::space::SpaceKind;
+use kinds::space::SpacePoint;
 use listing::list_section;
-use points::kinds::Band;
-use points::kinds::BandKind;
-use points::kinds::PlaneKind;
-use points::kinds::PlanePoint;
-use points::kinds::SpaceKind;
-use points::kinds::SpacePoint;
 use std::io;
 
 fn main(rt: LibcRuntime) -> io::Result<()> {

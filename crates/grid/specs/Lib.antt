@@ -1,4 +1,2 @@
 pub mod Blend
 pub mod Search
-pub mod Refusals
-pub mod Layers

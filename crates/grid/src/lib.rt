@@ -1,4 +1,3 @@
-//! The whole-number grid: the blend of two coordinates, and how a refusal is told.
+//! The whole-number grid: the blend of two coordinates.
 
 pub mod blend;
-pub mod report;

@@ -15,9 +15,9 @@ use Rattle.std.specs.declared.option.Option.{Option}
 use Rattle.std.specs.declared.option.Option.the-variants.{Some, None}
 use Rattle.grid.proofs.Searches.{none-where}
 use Rattle.knots.specs.declared.list.KnotList.{KnotList}
-use Rattle.knots.specs.declared.fault.PieceFault.{PieceFault}
-use Rattle.knots.specs.declared.fault.PieceFault.the-variants.{Degree, Count, KnotCount, KnotRange, KnotFalls, KnotRepeats}
-use Rattle.grid.specs.Refusals.{unless, at}
+use Rattle.refusals.specs.declared.piece.PieceFault.{PieceFault}
+use Rattle.refusals.specs.declared.piece.PieceFault.the-variants.{Degree, Count, KnotCount, KnotRange, KnotFalls, KnotRepeats}
+use Rattle.refusals.specs.Order.{unless, at}
 use Rattle.knots.specs.Lawful.{isDegree, isCount, isKnot, times, firstKnot, lastKnot, repeatsWell, firstOutside, firstFall, firstIllRepeated, refusal, Lawful, Stores}
 
 -- a value that no index from j on holds stands at most j times

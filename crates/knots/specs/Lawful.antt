@@ -9,11 +9,11 @@ use lib.ListN.{length, getD, replicate}
 use lib.Signed.{leZ}
 use Rattle.std.specs.declared.option.Option.{Option}
 use Rattle.std.specs.declared.option.Option.the-variants.{Some, None}
-use Rattle.grid.specs.Refusals.{unless, at}
+use Rattle.refusals.specs.Order.{unless, at}
 use Rattle.grid.specs.Search.{firstWhere}
 use Rattle.knots.specs.declared.list.KnotList.{KnotList}
-use Rattle.knots.specs.declared.fault.PieceFault.{PieceFault}
-use Rattle.knots.specs.declared.fault.PieceFault.the-variants.{Degree, Count, KnotCount, KnotRange, KnotFalls, KnotRepeats}
+use Rattle.refusals.specs.declared.piece.PieceFault.{PieceFault}
+use Rattle.refusals.specs.declared.piece.PieceFault.the-variants.{Degree, Count, KnotCount, KnotRange, KnotFalls, KnotRepeats}
 
 -- a degree is 1 to 5
 abbrev pub isDegree : ℤ → Bool

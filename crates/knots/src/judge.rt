@@ -8,10 +8,10 @@ ghost use lib.IntN.{pos, natAbs};
 ghost use Rattle.std.specs.Results.{Cases};
 ghost use Rattle.std.specs.declared.option.Option.the-variants.{Some, None};
 ghost use Rattle.knots.specs.Lawful.{refusal, Stores, Lawful, isDegree, isCount, isKnot, times, repeatsWell, firstOutside, firstFall, firstIllRepeated};
-ghost use Rattle.knots.specs.declared.fault.PieceFault.the-variants.{Degree, Count, KnotCount, KnotRange, KnotFalls, KnotRepeats};
-use crate::fault::PieceFault;
+ghost use Rattle.refusals.specs.declared.piece.PieceFault.the-variants.{Degree, Count, KnotCount, KnotRange, KnotFalls, KnotRepeats};
 use crate::list::KnotList;
 use crate::list::MOST_KNOTS;
+use refusals::piece::PieceFault;
 
 // Degree is 1 to 5.
 fn judged_degree(degree: i64) -> Result<usize, PieceFault>

@@ -6,8 +6,8 @@ ghost use lib.IntN.{natAbs};
 ghost use Rattle.std.specs.Results.{Cases};
 ghost use Rattle.knots.specs.Lawful.{Lawful, firstKnot, lastKnot};
 ghost use Rattle.knots.specs.Spans.{inDomain, spanOf, Span};
-ghost use Rattle.knots.specs.declared.fault.PieceFault.the-variants.{OffDomain};
-use crate::fault::PieceFault;
+ghost use Rattle.refusals.specs.declared.piece.PieceFault.the-variants.{OffDomain};
+use refusals::piece::PieceFault;
 
 // The domain runs from the first knot, included, to the last, excluded.
 fn in_domain(knots: &[u32], u: i64) -> bool

@@ -1,4 +1,3 @@
-pub mod Faults
 pub mod Sections
 pub mod Triangle
 pub mod Reading

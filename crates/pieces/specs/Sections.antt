@@ -2,10 +2,10 @@
 use Rattle.std.specs.Options.{mapped}
 use Rattle.std.specs.declared.option.Option.{Option}
 use Rattle.std.specs.declared.option.Option.the-variants.{Some, None}
-use Rattle.knots.specs.declared.fault.PieceFault.{PieceFault}
-use Rattle.points.specs.declared.fault.PointFault.{PointFault}
-use Rattle.pieces.specs.declared.fault.SectionFault.{SectionFault}
-use Rattle.pieces.specs.declared.fault.SectionFault.the-variants.{Piece, Point}
+use Rattle.refusals.specs.declared.piece.PieceFault.{PieceFault}
+use Rattle.refusals.specs.declared.point.PointFault.{PointFault}
+use Rattle.refusals.specs.declared.section.SectionFault.{SectionFault}
+use Rattle.refusals.specs.declared.section.SectionFault.the-variants.{Piece, Point}
 
 -- first the cause of degree, count and knots, if any, then that of the points
 abbrev pub either : Option PieceFault → Option PointFault → Option SectionFault

@@ -5,13 +5,13 @@ ghost use Rattle.std.specs.Results.{Cases};
 ghost use Rattle.std.specs.declared.option.Option.the-variants.{Some, None};
 ghost use Rattle.knots.specs.Lawful.{Lawful};
 ghost use Rattle.knots.specs.Spans.{Span};
-ghost use Rattle.knots.specs.declared.fault.PieceFault.the-variants.{OffDomain};
+ghost use Rattle.refusals.specs.declared.piece.PieceFault.the-variants.{OffDomain};
 ghost use Rattle.pieces.specs.Reading.{reading};
 ghost use Rattle.pieces.specs.Triangle.{deBoor};
 use crate::triangle::triangle;
-use knots::fault::PieceFault;
 use knots::span::span;
 use points::point::Point;
+use refusals::piece::PieceFault;
 
 // The reading at u of the span k, from the control points that govern it.
 fn read_span<P: Point>(degree: usize, knots: &[u32], points: &[P], u: u32, k: usize) -> (P, usize)

@@ -8,14 +8,14 @@ ghost use Rattle.std.specs.declared.option.Option.the-variants.{Some, None};
 ghost use Rattle.knots.specs.Lawful.{Lawful, refusal};
 ghost use Rattle.points.specs.Rows.{rowRefusal};
 ghost use Rattle.pieces.specs.Sections.{either};
-use crate::fault::SectionFault;
-use crate::fault::SectionFaultFromPiece;
-use crate::fault::SectionFaultFromPoint;
 use knots::judge::judge;
 use knots::list::KnotList;
 use points::point::Point;
 use points::row::check_row;
 use points::row::fill_row;
+use refusals::section::SectionFault;
+use refusals::section::SectionFaultFromPiece;
+use refusals::section::SectionFaultFromPoint;
 
 // Lays a section from the start of a memory; where it is refused, the memory stays.
 pub fn lay<P: Point>(

@@ -1,4 +1,3 @@
 pub mod Clamping
 pub mod Shapes
-pub mod Bands
 pub mod Rowing

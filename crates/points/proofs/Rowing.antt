@@ -9,7 +9,7 @@ use lib.ListN.{length, getD, drop}
 use Rattle.std.proofs.shelf.Lists.{at-drop-more, at-drop-all}
 use Rattle.std.specs.declared.option.Option.{Option}
 use Rattle.std.specs.declared.option.Option.the-variants.{Some, None}
-use Rattle.points.specs.declared.fault.PointFault.{PointFault}
+use Rattle.refusals.specs.declared.point.PointFault.{PointFault}
 use Rattle.points.specs.Lists.{IsPoint, refusal}
 use Rattle.points.specs.Rows.{after, orElse, rowRefusal}
 use Rattle.points.proofs.Shapes.{accepted}

@@ -15,12 +15,12 @@ use Rattle.std.proofs.shelf.Counted.{fill-by-all}
 use Rattle.std.proofs.shelf.Lists.{getD-past}
 use Rattle.std.proofs.shelf.Tests.{leb-true, eq-eqb, eqb-true, not-false, cases-lt}
 use Rattle.grid.specs.Blend.{Coordinate}
-use Rattle.grid.specs.Refusals.{unless, at}
+use Rattle.refusals.specs.Order.{unless, at}
 use Rattle.grid.specs.Search.{firstWhere}
 use Rattle.grid.proofs.Searches.{first-none, first-found, none-where, first-within}
-use Rattle.points.specs.declared.fault.PointFault.{PointFault}
-use Rattle.points.specs.declared.fault.PointFault.the-variants.{Count, Range, Test}
-use Rattle.points.specs.Faults.{reported}
+use Rattle.refusals.specs.declared.point.PointFault.{PointFault}
+use Rattle.refusals.specs.declared.point.PointFault.the-variants.{Count, Range, Test}
+use Rattle.refusals.specs.Causes.{pointReport}
 use Rattle.points.specs.Lists.{IsPoint, inRange, misshapen, refusal}
 use Rattle.points.specs.Stored.{clamped}
 use Rattle.points.proofs.Clamping.{clamped-coordinate}
@@ -73,11 +73,11 @@ passed-steps true None false e = absurd (some-none e)
 passed-steps true (Some i) passed e = absurd (some-none e)
 passed-steps false wild passed e = absurd (some-none e)
 
-same-place : (f g : PointFault) (n : ℕ) → Some f ≡ Some g → reported f .place ≤ n → reported g .place ≤ n
-same-place f g n e h = let s : f ≡ g = cc in subst (λ v. reported v .place ≤ n) s h
+same-place : (f g : PointFault) (n : ℕ) → Some f ≡ Some g → pointReport f .place ≤ n → pointReport g .place ≤ n
+same-place f g n e h = let s : f ≡ g = cc in subst (λ v. pointReport v .place ≤ n) s h
 
 failed-place : (long : Bool) (wild : Option ℕ) (passed : Bool) (fault : PointFault) (n : ℕ) → ((i : ℕ) → long ≡ true → wild ≡ Some i → i ≤ n)
-    → unless long Count (at wild Range (unless passed Test None)) ≡ Some fault → reported fault .place ≤ n
+    → unless long Count (at wild Range (unless passed Test None)) ≡ Some fault → pointReport fault .place ≤ n
 failed-place true None true fault n h e = absurd (some-none (sym e))
 failed-place true None false fault n h e = same-place Test fault n e (omega arith)
 failed-place true (Some i) passed fault n h e = same-place (Range i) fault n e (h i refl refl)
@@ -95,7 +95,7 @@ module _ (width : ℕ) (passes : List ℤ → Bool) (xs : List ℤ) where
       }
 
   -- the place of a fault lies within the list
-  pub fault-place : (fault : PointFault) → refusal width passes xs ≡ Some fault → reported fault .place ≤ width
+  pub fault-place : (fault : PointFault) → refusal width passes xs ≡ Some fault → pointReport fault .place ≤ width
   fault-place fault e =
       failed-place (eqb (length xs) width) (firstWhere (out xs) 0 (length xs)) (passes xs) fault width
       (λ i t f. let l = first-within (out xs) 0 (length xs) i f in let n = eqb-true _ _ t in omega arith) e

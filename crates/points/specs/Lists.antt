@@ -10,10 +10,10 @@ use lib.Signed.{leZ}
 use Rattle.std.specs.declared.option.Option.{Option}
 use Rattle.std.specs.declared.option.Option.the-variants.{Some, None}
 use Rattle.grid.specs.Blend.{Coordinate, blended, inexact}
-use Rattle.grid.specs.Refusals.{unless, at}
+use Rattle.refusals.specs.Order.{unless, at}
 use Rattle.grid.specs.Search.{firstWhere}
-use Rattle.points.specs.declared.fault.PointFault.{PointFault}
-use Rattle.points.specs.declared.fault.PointFault.the-variants.{Count, Range, Test}
+use Rattle.refusals.specs.declared.point.PointFault.{PointFault}
+use Rattle.refusals.specs.declared.point.PointFault.the-variants.{Count, Range, Test}
 
 -- a list is a point of a kind where it has the kind's width, its coordinates are in range (0 stands past the last one),
 -- and it passes the kind's test

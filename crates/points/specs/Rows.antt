@@ -6,8 +6,8 @@ use lib.IntN.{ℤ}
 use lib.ListN.{length}
 use Rattle.std.specs.declared.option.Option.{Option}
 use Rattle.std.specs.declared.option.Option.the-variants.{Some, None}
-use Rattle.points.specs.declared.fault.PointFault.{PointFault}
-use Rattle.points.specs.declared.fault.PointFault.the-variants.{Count, Range, Test}
+use Rattle.refusals.specs.declared.point.PointFault.{PointFault}
+use Rattle.refusals.specs.declared.point.PointFault.the-variants.{Count, Range, Test}
 use Rattle.points.specs.Lists.{refusal}
 
 -- a fault of a list that stands after so many coordinates: an index is counted through all of them

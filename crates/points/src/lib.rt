@@ -1,7 +1,5 @@
-//! Kinds of point: the trait, rows of points, and the plane, space and band kinds.
+//! Kinds of point: the trait and rows of points.
 
-pub mod fault;
-pub mod kinds;
 pub mod point;
 pub mod row;
 pub mod stored;

@@ -8,7 +8,7 @@ ghost use Rattle.std.specs.Results.{Cases};
 ghost use Rattle.std.specs.declared.option.Option.the-variants.{Some, None};
 ghost use Rattle.grid.specs.Blend.{Coordinate, Ratio};
 ghost use Rattle.points.specs.Lists.{IsPoint, Turn, refusal, misshapen, inRange, blendPoint, inexactPoint, flipped};
-use crate::fault::PointFault;
+use refusals::point::PointFault;
 
 // A kind of point. A point means a list of coordinates: `told` says which list a record means,
 // and every value of the record means one.

@@ -5,14 +5,14 @@ ghost use lib.ListN.{length, take, drop};
 ghost use denote.Ref.{now as behind};
 ghost use Rattle.std.specs.Results.{Cases};
 ghost use Rattle.std.specs.declared.option.Option.the-variants.{Some, None};
-ghost use Rattle.points.specs.Faults.{reported};
+ghost use Rattle.refusals.specs.Causes.{pointReport};
 ghost use Rattle.points.specs.Rows.{rowRefusal, after};
-use crate::fault::PointFault;
 use crate::point::Point;
+use refusals::point::PointFault;
 
 // A fault of a list that stands after so many coordinates.
 fn placed(fault: PointFault, before: usize) -> PointFault
-    requires { ⌜ (before < 2 ^ 32) × (reported fault .place < 2 ^ 32) ⌝ }
+    requires { ⌜ (before < 2 ^ 32) × (pointReport fault .place < 2 ^ 32) ⌝ }
     ensures { λ r. ⌜ r ≡ after before fault ⌝ }
 {
     match fault {
@@ -40,8 +40,8 @@ pub fn check_row<P: Point>(lists: &[&[i64]]) -> Result<(), PointFault>
     Ok(())
 }
 
-// Makes the points of lists that were checked, from the start of a row; the rest of it stays.
-pub fn fill_row<P: Point>(lists: &[&[i64]], row: &mut [P])
+// Makes and writes the points of lists, one after another.
+fn write<P: Point>(lists: &[&[i64]], row: &mut [P])
     requires checked { ⌜ rowRefusal width passes 0 (map behind (now lists)) ≡ None ⌝ }
     requires long { ⌜ length (now lists) ≤ length (now row) ⌝ }
     ensures made { λ _. ⌜ map told (take (length (now (lists .entry))) (now (row .exit))) ≡ map behind (now (lists .entry)) ⌝ }
@@ -50,4 +50,14 @@ pub fn fill_row<P: Point>(lists: &[&[i64]], row: &mut [P])
     for (i, xs) in lists.iter().enumerate() {
         row[i] = P::of(xs);
     }
+}
+
+// Fills a row from its start with the points of lists that were checked; the rest of it stays.
+pub fn fill_row<P: Point>(lists: &[&[i64]], row: &mut [P])
+    requires checked { ⌜ rowRefusal width passes 0 (map behind (now lists)) ≡ None ⌝ }
+    requires long { ⌜ length (now lists) ≤ length (now row) ⌝ }
+    ensures made { λ _. ⌜ map told (take (length (now (lists .entry))) (now (row .exit))) ≡ map behind (now (lists .entry)) ⌝ }
+    ensures rest { λ _. ⌜ drop (length (now (lists .entry))) (now (row .exit)) ≡ drop (length (now (lists .entry))) (now (row .entry)) ⌝ }
+{
+    write(lists, row);
 }

@@ -16,11 +16,19 @@ pub fn tell(stored: i32) -> i32
     stored.clamp(-1_073_741_824, 1_073_741_824)
 }
 
+// A coordinate to be stored, which is told as it is.
+fn held(coordinate: i32) -> i32
+    requires { ⌜ Coordinate coordinate ⌝ }
+    ensures { λ r. ⌜ clamped r ≡ coordinate ⌝ }
+{
+    coordinate
+}
+
 // A stored number that tells the negative.
 pub fn opposite(stored: i32) -> i32
     ensures { λ r. ⌜ clamped r ≡ negℤ (clamped stored) ⌝ }
 {
-    -tell(stored)
+    held(-tell(stored))
 }
 
 // The blend of two stored numbers as they are told, and whether it is inexact.
@@ -29,7 +37,8 @@ pub fn mix(p: i32, q: i32, a: u32, b: u32) -> (i32, bool)
     ensures value { λ r. ⌜ clamped (r .0) ≡ blended (clamped p) (clamped q) a b ⌝ }
     ensures inexact { λ r. ⌜ r .1 ≡ inexact (clamped p) (clamped q) a b ⌝ }
 {
-    blend(tell(p), tell(q), a, b)
+    let (mean, inexact) = blend(tell(p), tell(q), a, b);
+    (held(mean), inexact)
 }
 
 // Coordinate i of a list, to be stored.
@@ -38,5 +47,5 @@ pub fn store(xs: &[i64], i: usize) -> i32
     requires coordinate { ⌜ ((k : ℕ) → Coordinate (getD (now xs) k (pos 0))) ⌝ }
     ensures { λ r. ⌜ clamped r ≡ getD (now (xs .entry)) i (pos 0) ⌝ }
 {
-    xs[i] as i32
+    held(xs[i] as i32)
 }

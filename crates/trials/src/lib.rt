@@ -2,7 +2,7 @@
 //! point that the unit does not deliver, of the least and of the greatest width.
 
 #[cfg(test)]
-mod kinds;
+mod other_kinds;
 #[cfg(test)]
 mod readings;
 #[cfg(test)]

@@ -1,19 +1,19 @@
 ghost use mathlib.Core.Path.{_≡_};
 ghost use lib.ListN.{length};
-use crate::kinds::Corner;
-use crate::kinds::CornerKind;
-use crate::kinds::Height;
-use crate::kinds::HeightKind;
-use grid::report::Report;
+use crate::other_kinds::Corner;
+use crate::other_kinds::CornerKind;
+use crate::other_kinds::Height;
+use crate::other_kinds::HeightKind;
+use kinds::band::Band;
+use kinds::band::BandKind;
+use kinds::plane::PlaneKind;
+use kinds::plane::PlanePoint;
+use kinds::space::SpaceKind;
+use kinds::space::SpacePoint;
 use pieces::reading::read;
 use pieces::section::lay;
-use points::kinds::Band;
-use points::kinds::BandKind;
-use points::kinds::PlaneKind;
-use points::kinds::PlanePoint;
-use points::kinds::SpaceKind;
-use points::kinds::SpacePoint;
 use points::point::Point;
+use refusals::report::Report;
 use std::test::*;
 
 // A section read at u: the reading, or what its refusal tells.

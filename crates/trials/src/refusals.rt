@@ -1,16 +1,16 @@
-use crate::kinds::Corner;
-use crate::kinds::CornerKind;
-use crate::kinds::Height;
-use crate::kinds::HeightKind;
+use crate::other_kinds::Corner;
+use crate::other_kinds::CornerKind;
+use crate::other_kinds::Height;
+use crate::other_kinds::HeightKind;
 use crate::readings::reading;
-use grid::report::Layer;
-use grid::report::LayerDebug;
-use grid::report::LayerPartialEq;
-use points::kinds::Band;
-use points::kinds::BandKind;
-use points::kinds::PlaneKind;
-use points::kinds::PlanePoint;
+use kinds::band::Band;
+use kinds::band::BandKind;
+use kinds::plane::PlaneKind;
+use kinds::plane::PlanePoint;
 use points::point::Point;
+use refusals::report::Layer;
+use refusals::report::LayerDebug;
+use refusals::report::LayerPartialEq;
 use std::test::*;
 
 // Holds the refusal of a plane section, or of its reading at u, to number, layer and place.

@@ -1,0 +1,11 @@
+use mathlib.Core.Path.{refl}
+use mathlib.Core.List.{[], _∷_}
+use lib.IntN.{negℤ-negℤ}
+use Rattle.points.proofs.Shapes.{rebuilt, clamped-ranged}
+use Rattle.kinds.proofs.plane.PlaneKind.the-impl.Needs as need
+
+pub points-law : need.points-law
+points-law p = record { long = refl; ranged = clamped-ranged (p .x ∷ (p .y ∷ [])); passed = refl }
+
+pub restores-law : need.restores-law
+restores-law xs e = simp negℤ-negℤ (rebuilt 2 xs e)

@@ -1,6 +1,0 @@
-use borrow.Author.Needs.{needs}
-use Rattle.points.proofs.Clamping.{telling}
-use Rattle.points.proofs.kinds.Band.lesser.Needs as need
-
-pub returns : need.returns
-returns c = search (needs, telling)

@@ -1,0 +1,11 @@
+use mathlib.Core.Path.{refl}
+use mathlib.Core.List.{[], _∷_}
+use lib.IntN.{negℤ-negℤ}
+use Rattle.points.proofs.Shapes.{rebuilt, clamped-ranged}
+use Rattle.trials.proofs.other_kinds.HeightKind.the-impl.Needs as need
+
+pub points-law : need.points-law
+points-law p = record { long = refl; ranged = clamped-ranged (p .z ∷ []); passed = refl }
+
+pub restores-law : need.restores-law
+restores-law xs e = simp negℤ-negℤ (rebuilt 1 xs e)

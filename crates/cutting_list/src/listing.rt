@@ -75,7 +75,7 @@ fn show_readings<P: Point>(
 }
 
 // Lays a drawing on a memory and lists its readings, or shows why it is refused.
-pub fn list_section<P: Point>(
+pub(crate) fn list_section<P: Point>(
     rt: &LibcRuntime,
     drawing: &Drawing,
     memory: &mut [P],

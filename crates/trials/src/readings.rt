@@ -17,7 +17,7 @@ use refusals::report::Report;
 use std::test::*;
 
 // A section read at u: the reading, or what its refusal tells.
-pub fn reading<P: Point>(
+pub(crate) fn reading<P: Point>(
     memory: &mut [P],
     degree: i64,
     knots: &[i64],

@@ -3,13 +3,12 @@ use Prim.Native.Nat.{ℕ, suc, _+_, _-_, _*_, _≤_, _^_}
 use native.Mathlib.Nat.{mul-le-mul-left, mul-add, add-mul}
 use native.Mathlib.Omega.{arith}
 use borrow.Author.Differences.{ints, abs-is, neg-is, up, down}
-use mathlib.Core.Path.{_≡_, refl, sym, ap, _∙_}
-use mathlib.Core.Bool.{Bool, false}
-use lib.IntN.{ℤ, pos, negsuc, negℤ, _*ℤ_, _+ℤ_, _-ℤ_, natAbs}
+use mathlib.Core.Path.{_≡_, ap, _∙_}
+use lib.IntN.{ℤ, pos, negsuc, negℤ, _*ℤ_, _+ℤ_, natAbs}
 use lib.Signed.{_≤ℤ_}
 use Rattle.std.specs.Numbers.{minZ, maxZ}
 use Rattle.std.proofs.shelf.Signed.{clamps}
-use Rattle.grid.specs.Blend.{Coordinate, Ratio, weighted, nearest, fractional, blended, inexact, BlendLaw}
+use Rattle.grid.specs.Blend.{Coordinate, Ratio, weighted, nearest, blended, inexact, BlendLaw}
 use Rattle.grid.proofs.Nearest.{near, monotone, least, most, exact, whole, divisible}
 
 -- a product by k of a number of at most m is at most k * m

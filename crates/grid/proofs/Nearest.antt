@@ -1,12 +1,12 @@
 -- The nearest whole number. `near` and `monotone` alone open its definition, beside `by-one-division`, which says how
 -- the code comes by it; every other law comes from these.
-use Prim.Native.Nat.{ℕ, zero, suc, _+_, _-_, _*_, _/_, _%_, _≤_, _<_, _^_}
+use Prim.Native.Nat.{ℕ, suc, _+_, _-_, _*_, _/_, _≤_, _<_}
 use native.Mathlib.Nat.{mul-le-mul-left, mul-add, mul-assoc, mul-comm, div-add-mod, mod-lt, mul-suc, mul-zero, mul-one, mul-mod-right, zero-mod}
 use native.Mathlib.Omega.{arith}
 use borrow.Author.Differences.{ints, product-is, sum-is, up, down}
 use borrow.Author.Tests.{tests}
 use mathlib.Core.Path.{_≡_, refl, sym, ap, _∙_}
-use mathlib.Core.Bool.{Bool, true, false, not}
+use mathlib.Core.Bool.{true, false, not}
 use lib.Dec.{eqb}
 use lib.IntN.{ℤ, pos, negsuc, _*ℤ_, _+ℤ_, _-ℤ_, natAbs}
 use lib.Signed.{_≤ℤ_, leZ}

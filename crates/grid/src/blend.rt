@@ -1,10 +1,7 @@
 ghost use mathlib.Core.Path.{_≡_};
-ghost use mathlib.Core.Bool.{cond};
-ghost use Prim.Native.Nat.{ℕ, _+_, _-_, _*_, _^_, _<_, _≤_};
-ghost use lib.Dec.{leb};
-ghost use lib.IntN.{ℤ, pos, _+ℤ_, _*ℤ_, natAbs};
-ghost use Rattle.std.specs.Numbers.{divEuclid, remEuclid};
-ghost use Rattle.grid.specs.Blend.{Coordinate, Ratio, weighted, nearest, fractional, blended, inexact, BlendLaw};
+ghost use Prim.Native.Nat.{_+_, _-_, _*_, _^_, _≤_};
+ghost use lib.IntN.{ℤ, pos, _*ℤ_, natAbs};
+ghost use Rattle.grid.specs.Blend.{Coordinate, Ratio, nearest, fractional, blended, inexact, BlendLaw};
 
 // k times a coordinate.
 fn scaled(k: u32, p: i32) -> i64
@@ -29,6 +26,7 @@ fn rounded(z: i64, b: u32) -> (i64, bool)
     (floor + i64::from(rest * 2 >= b), rest != 0)
 }
 
+// The rounded mean of two coordinates.
 fn mean(p: i32, q: i32, a: u32, b: u32) -> (i64, bool)
     requires left { ⌜ Coordinate p ⌝ }
     requires right { ⌜ Coordinate q ⌝ }

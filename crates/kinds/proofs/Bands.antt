@@ -1,11 +1,11 @@
 -- Bands: two numbers told lesser first.
 use Prim.Native.Nat.{ℕ}
 use native.Mathlib.Omega.{arith}
-use mathlib.Core.Path.{_≡_, sym, subst, _∙_}
+use mathlib.Core.Path.{_≡_, subst}
 use mathlib.Core.Bool.{true}
 use mathlib.Core.List.{List, [], _∷_}
 use lib.IntN.{ℤ, pos}
-use lib.ListN.{length, getD}
+use lib.ListN.{getD}
 use lib.Signed.{_≤ℤ_, leZ}
 use borrow.Author.Differences.{ints}
 use Rattle.std.specs.Numbers.{minZ, maxZ}

@@ -1,6 +1,5 @@
 ghost use mathlib.Core.List.{[], _∷_};
 ghost use mathlib.Core.Path.{_≡_};
-ghost use lib.IntN.{ℤ};
 ghost use Rattle.std.specs.Numbers.{minZ, maxZ};
 ghost use Rattle.points.specs.Lists.{rising, negated};
 ghost use Rattle.points.specs.Stored.{clamped};

@@ -1,15 +1,14 @@
 -- The rounds of de Boor's triangle in a room that holds the d + 1 control points from the first knot on.
-use Prim.Native.Nat.{ℕ, zero, suc, _+_, _-_, _≤_, _<_}
+use Prim.Native.Nat.{ℕ, suc, _+_, _-_, _≤_, _<_}
 use native.Mathlib.Omega.{arith}
-use mathlib.Core.Path.{_≡_, refl, sym, ap, subst, _∙_}
+use mathlib.Core.Path.{_≡_, refl, sym, ap, _∙_}
 use mathlib.Core.Bool.{Bool, true, false, cond}
 use mathlib.Core.List.{List, []}
 use lib.IntN.{ℤ}
-use lib.ListN.{length, getD}
+use lib.ListN.{getD}
 use mir.Val.{boolByte}
 use Rattle.grid.specs.Search.{anyWhere}
 use Rattle.grid.proofs.Searches.{any-shifted}
-use Rattle.points.specs.Lists.{blendPoint, inexactPoint}
 use Rattle.pieces.specs.Triangle.{between, inexactBetween, entry, inexactEntry, inexactRounds}
 
 one : (b : Bool) → boolByte b ≡ cond b 1 0

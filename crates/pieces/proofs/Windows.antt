@@ -1,15 +1,15 @@
 -- The knots and control points that govern the parameters of a span, as parts of those of a lawful piece.
-use Prim.Native.Nat.{ℕ, suc, _+_, _-_, _≤_, _<_, _^_}
+use Prim.Native.Nat.{ℕ, suc, _+_, _-_, _≤_, _<_}
 use native.Mathlib.Omega.{arith}
-use mathlib.Core.Path.{_≡_, refl, sym, ap, subst, _∙_}
+use mathlib.Core.Path.{_≡_, sym, ap, _∙_}
 use mathlib.Core.List.{List, [], map}
 use lib.IntN.{ℤ}
-use lib.ListN.{length, getD, take, drop, length-drop, length-map}
+use lib.ListN.{length, getD, take, drop, length-drop}
 use lib.Seq.{length-take-le}
 use Rattle.std.proofs.shelf.Lists.{getD-take, getD-drop, take-map, drop-map}
 use Rattle.knots.specs.Lawful.{Lawful}
 use Rattle.knots.specs.Spans.{Span}
-use Rattle.knots.proofs.Lawfuls.{lawful-degree, lawful-count, lawful-length, lawful-range, lawful-rises}
+use Rattle.knots.proofs.Lawfuls.{lawful-degree, lawful-length, lawful-range, lawful-rises}
 use Rattle.pieces.specs.Triangle.{Around, deBoor}
 use Rattle.pieces.proofs.Shifts.{deBoor-shifted}
 

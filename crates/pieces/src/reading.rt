@@ -1,5 +1,5 @@
 ghost use mathlib.Core.Path.{_≡_};
-ghost use mathlib.Core.List.{List, map};
+ghost use mathlib.Core.List.{map};
 ghost use lib.ListN.{length};
 ghost use Rattle.std.specs.Results.{Cases};
 ghost use Rattle.std.specs.declared.option.Option.the-variants.{Some, None};

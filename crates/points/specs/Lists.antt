@@ -8,7 +8,7 @@ use lib.IntN.{ℤ, pos, negℤ, natAbs}
 use lib.ListN.{length, getD}
 use lib.Signed.{leZ}
 use Rattle.std.specs.declared.option.Option.{Option}
-use Rattle.std.specs.declared.option.Option.the-variants.{Some, None}
+use Rattle.std.specs.declared.option.Option.the-variants.{None}
 use Rattle.grid.specs.Blend.{Coordinate, blended, inexact}
 use Rattle.refusals.specs.Order.{unless, at}
 use Rattle.grid.specs.Search.{firstWhere}

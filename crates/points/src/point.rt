@@ -26,15 +26,20 @@ pub trait Point: Copy {
     // the kind's flip, coordinate by coordinate
     ghost turns: { List Turn };
 
+    // a width is 1 to 4
     law narrow: { (1 ≤ width) × (width ≤ 4) };
 
+    // every value of the record means a point
     law points: { (p : Self) → IsPoint width passes (told p) };
 
+    // a blend of two points passes the condition
     law blends: { (a b : ℕ) (xs ys : List ℤ) → Ratio a b → IsPoint width passes xs → IsPoint width passes ys → passes (blendPoint a b xs ys) ≡ true };
 
+    // and so does a flipped point
     law flips: { (xs : List ℤ) → IsPoint width passes xs → passes (flipped turns xs) ≡ true };
 
-    law restores: { (xs : List ℤ) → length xs ≡ width → flipped turns (flipped turns xs) ≡ xs };
+    // a flip done twice restores the point
+    law restores: { (xs : List ℤ) → IsPoint width passes xs → flipped turns (flipped turns xs) ≡ xs };
 
     // The constant, for code that knows no more of a kind than this trait.
     fn wide() -> usize
@@ -72,6 +77,7 @@ pub trait Point: Copy {
         ensures value { λ r. ⌜ told (r .0) ≡ blendPoint a b (told (now (self .entry))) (told (now (other .entry))) ⌝ }
         ensures inexact { λ r. ⌜ r .1 ≡ inexactPoint a b (told (now (self .entry))) (told (now (other .entry))) ⌝ };
 
+    // The flipped point.
     fn flip(self) -> Self
         ensures { λ r. ⌜ told r ≡ flipped turns (told self) ⌝ };
 }

@@ -1,9 +1,9 @@
 //! Numbers as a record stores them: each is told as a coordinate, whatever it is.
 
 ghost use mathlib.Core.Path.{_≡_};
-ghost use Prim.Native.Nat.{ℕ, _≤_, _<_};
+ghost use Prim.Native.Nat.{ℕ, _<_};
 ghost use lib.ListN.{length, getD};
-ghost use lib.IntN.{ℤ, pos, negℤ};
+ghost use lib.IntN.{pos, negℤ};
 ghost use Rattle.grid.specs.Blend.{Coordinate, Ratio, blended, inexact};
 ghost use Rattle.points.specs.Stored.{clamped};
 use grid::blend::blend;

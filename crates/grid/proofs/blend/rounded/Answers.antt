@@ -1,8 +1,6 @@
 use borrow.Author.Needs.{needs}
-use borrow.Author.Differences.{ints}
-use native.Mathlib.Omega.{arith}
 use lib.Dec.{eqb}
-use lib.IntN.{ℤ, pos, _+ℤ_, _*ℤ_, natAbs}
+use lib.IntN.{ℤ, pos, _+ℤ_, _*ℤ_}
 use lib.Signed.{leZ}
 use mathlib.Core.Path.{_≡_, sym, ap, _∙_}
 use mathlib.Core.Bool.{not}
@@ -10,7 +8,7 @@ use mir.Syntax.{w64}
 use mir.Val.{SFits, ofZ, boolByte}
 use Rattle.std.proofs.shelf.Signed.{toZ-ofZ}
 use Rattle.std.specs.Numbers.{divEuclid, remEuclid}
-use Rattle.grid.specs.Blend.{nearest, fractional}
+use Rattle.grid.specs.Blend.{fractional}
 use Rattle.grid.proofs.Nearest.{by-one-division, rest-bits}
 use Rattle.grid.proofs.blend.rounded.Needs as need
 

@@ -1,11 +1,11 @@
 use native.Mathlib.Omega.{arith}
-use Prim.Native.Nat.{_≤_, _<_, _+_, _-_}
+use Prim.Native.Nat.{_<_, _+_, _-_}
 use mathlib.Core.Path.{_≡_, refl, ap, _∙_}
 use mathlib.Core.List.{[], map}
 use lib.ListN.{length, length-map}
 use Rattle.grid.specs.Search.{anyWhere}
 use Rattle.pieces.specs.Triangle.{between, inexactBetween}
-use Rattle.pieces.proofs.Sweeps.{Swept, swept-none, swept-more, tested}
+use Rattle.pieces.proofs.Sweeps.{swept-none, swept-more, tested}
 use Rattle.pieces.proofs.triangle.round.Needs as need
 
 pub loop-j-holds : need.loop-j-holds

@@ -1,8 +1,8 @@
 use native.Mathlib.Omega.{arith}
 use Prim.Native.Nat.{_<_}
 use mathlib.Core.Path.{_≡_, ap, sym, subst, _∙_}
-use mathlib.Core.List.{List, [], _∷_, _++_, map, map-append}
-use lib.ListN.{length, take, drop, getD, length-map}
+use mathlib.Core.List.{[], _∷_, _++_, map, map-append}
+use lib.ListN.{length, take, getD, length-map}
 use denote.Ref.{now}
 use Rattle.std.proofs.shelf.Lists.{take-more, take-more-set, take-all, drop-set-lt, getD-map}
 use Rattle.points.specs.Lists.{IsPoint}

@@ -1,5 +1,4 @@
 use borrow.Author.Needs.{needs}
-use Rattle.points.specs.Stored.{clamped}
 use Rattle.points.proofs.Clamping.{telling}
 use Rattle.points.proofs.stored.held.Needs as need
 

@@ -1,6 +1,5 @@
 use borrow.Author.Needs.{needs}
 use Rattle.points.specs.Stored.{clamped}
-use Rattle.points.proofs.Clamping.{telling}
 use Rattle.points.proofs.stored.tell.Needs as need
 
 pub returns : need.returns

@@ -20,4 +20,4 @@ pub blends-law : need.blends-law
 blends-law a b xs ys r p q = rising-blend a b xs ys r p q
 
 pub restores-law : need.restores-law
-restores-law xs e = simp negℤ-negℤ (rebuilt 2 xs e)
+restores-law xs p = simp negℤ-negℤ (rebuilt 2 xs (p .long))

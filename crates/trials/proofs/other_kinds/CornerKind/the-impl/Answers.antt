@@ -8,4 +8,4 @@ pub points-law : need.points-law
 points-law p = record { long = refl; ranged = clamped-ranged (p .x ∷ (p .y ∷ (p .port ∷ (p .starboard ∷ [])))); passed = refl }
 
 pub restores-law : need.restores-law
-restores-law xs e = simp negℤ-negℤ (rebuilt 4 xs e)
+restores-law xs p = simp negℤ-negℤ (rebuilt 4 xs (p .long))

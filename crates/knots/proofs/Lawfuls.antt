@@ -8,17 +8,16 @@ use mathlib.Core.List.{List, [], _∷_, map}
 use mathlib.Core.Logic.{⊎-elim}
 use lib.Dec.{eqb, leb, ltb}
 use lib.IntN.{ℤ, pos, natAbs}
-use lib.ListN.{length, getD, take, replicate}
-use Rattle.std.proofs.shelf.Lists.{length-map, getD-map, take-at}
+use lib.ListN.{length, getD}
+use Rattle.std.proofs.shelf.Lists.{length-map, getD-map}
 use Rattle.std.proofs.shelf.Tests.{cases-eq, cases-lt, cond-true, cond-false, and-parts, not-false, leb-true, eqb-true, ltb-false, eq-eqb, ne-eqb, or-left, or-right}
 use Rattle.std.specs.declared.option.Option.{Option}
 use Rattle.std.specs.declared.option.Option.the-variants.{Some, None}
 use Rattle.grid.proofs.Searches.{none-where}
-use Rattle.knots.specs.declared.list.KnotList.{KnotList}
 use Rattle.refusals.specs.declared.piece.PieceFault.{PieceFault}
 use Rattle.refusals.specs.declared.piece.PieceFault.the-variants.{Degree, Count, KnotCount, KnotRange, KnotFalls, KnotRepeats}
 use Rattle.refusals.specs.Order.{unless, at}
-use Rattle.knots.specs.Lawful.{isDegree, isCount, isKnot, times, firstKnot, lastKnot, repeatsWell, firstOutside, firstFall, firstIllRepeated, refusal, Lawful, Stores}
+use Rattle.knots.specs.Lawful.{isDegree, isCount, isKnot, times, firstKnot, lastKnot, repeatsWell, firstOutside, firstFall, firstIllRepeated, refusal, Lawful}
 
 -- a value that no index from j on holds stands at most j times
 pub times-before : (x : ℕ) (ks : List ℕ) (j : ℕ) → ((k : ℕ) → j ≤ k → k < length ks → getD ks k 0 ≡ x → ⊥) → times x ks ≤ j
@@ -187,15 +186,3 @@ module _ (d count : ℕ) (ks : List ℕ) (lawful : Lawful d count ks) where
       omega arith) in
       absurd (omega (arith, times-first)))
       (cases-lt (firstKnot ks) (lastKnot ks))
-
--- what is stored of an accepted list is lawful
-pub accepted-lawful : (degree : ℤ) (count : ℕ) (knots : List ℤ) (l : KnotList) → refusal degree count knots ≡ None → Stores degree count knots l → Lawful (l .degree) (l .count) (take (l .count + l .degree + 1) (l .knots))
-accepted-lawful degree count knots l e s =
-    let long = passed degree count knots e .length-is in
-    let d : natAbs degree ≡ l .degree = ap natAbs (s .degree-is) in
-    let n : length (map natAbs knots) ≡ l .count + l .degree + 1 = length-map knots natAbs ∙ omega (arith, long, d, s .count-is) in
-    let used : take (l .count + l .degree + 1) (l .knots) ≡ map natAbs knots = ap (take (l .count + l .degree + 1)) (s .knots-are) ∙ take-at (map natAbs knots) (replicate (70 - length knots) 0) _ n in
-    let back : knots ≡ map pos (take (l .count + l .degree + 1) (l .knots)) = s .in-range ∙ sym (ap (map pos) used) in
-    subst (λ z. refusal z (l .count) (map pos (take (l .count + l .degree + 1) (l .knots))) ≡ None) (s .degree-is)
-    (subst (λ n. refusal degree n (map pos (take (l .count + l .degree + 1) (l .knots))) ≡ None) (s .count-is)
-    (subst (λ ks. refusal degree count ks ≡ None) back e))

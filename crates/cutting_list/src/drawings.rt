@@ -1,4 +1,4 @@
-//! The drawings of the list: three sections, and four that no bench would take.
+//! The drawings of the list: three sections, and four that are refused.
 
 use crate::listing::Drawing;
 

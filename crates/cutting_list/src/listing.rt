@@ -64,8 +64,9 @@ fn show_readings<P: Point>(
     requires few { ⌜ now list .count + now list .degree + 1 ≤ 70 ⌝ }
 {
     println!(rt, "parameter, coordinates, inexact rounds:")?;
-    let start = list.knots[0];
-    let end = list.knots[list.count];
+    let knots = list.in_use();
+    let start = knots[0];
+    let end = knots[knots.len() - 1];
     for u in start..end {
         if stride != 0 && (u - start) % stride == 0 {
             show_reading(rt, list, points, i64::from(u))?;
@@ -80,7 +81,7 @@ pub(crate) fn list_section<P: Point>(
     drawing: &Drawing,
     memory: &mut [P],
 ) -> io::Result<()>
-    requires { ⌜ length (now memory) ≡ 64 ⌝ }
+    requires { ⌜ 64 ≤ length (now memory) ⌝ }
 {
     let name = drawing.name;
     println!(rt, "{name}")?;

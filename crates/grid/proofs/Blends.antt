@@ -37,9 +37,9 @@ weighted-same : (n : ℤ) (a b : ℕ) → a ≤ b → weighted n n a b ≡ pos b
 weighted-same n a b h = omega (arith, ints, parts a b (up n) h, parts a b (down n) h)
 
 -- Law: a blend never falls as its two rise.
-pub rising : (p q p′ q′ : ℤ) (a b : ℕ) → Ratio a b → p ≤ℤ p′ → q ≤ℤ q′ → blended p q a b ≤ℤ blended p′ q′ a b
+pub rises : (p q p′ q′ : ℤ) (a b : ℕ) → Ratio a b → p ≤ℤ p′ → q ≤ℤ q′ → blended p q a b ≤ℤ blended p′ q′ a b
 unfolding blended
-rising p q p′ q′ a b r hp hq = monotone _ _ b (r .some) (weighted-monotone p q p′ q′ a b hp hq)
+rises p q p′ q′ a b r hp hq = monotone _ _ b (r .some) (weighted-monotone p q p′ q′ a b hp hq)
 
 -- Law: a blend lies within any bounds of its two.
 pub above : (lo p q : ℤ) (a b : ℕ) → Ratio a b → lo ≤ℤ p → lo ≤ℤ q → lo ≤ℤ blended p q a b
@@ -84,6 +84,7 @@ lawful p q a b r = record {
   divisible = λ n e. divisible (weighted p q a b) n b (r .some) e;
   low = above (minZ p q) p q a b r (omega (arith, ints, clamps)) (omega (arith, ints, clamps));
   high = under (maxZ p q) p q a b r (omega (arith, ints, clamps)) (omega (arith, ints, clamps));
+  rises = λ p′ q′ hp hq. rises p q p′ q′ a b r hp hq;
   first = at-first p q a b r;
   last = at-last p q a b r;
 }

@@ -1,5 +1,5 @@
--- The nearest whole number. `near` and `monotone` alone open its definition, beside `by-one-division`, which says how
--- the code comes by it; every other law comes from these.
+-- The nearest whole number. Its definition is opened in one place, `sharp`; the rule for ties stands in `Rounds`, which `near`,
+-- `monotone` and `by-one-division` (how the code comes by it) are proved from. Every other law comes from those.
 use Prim.Native.Nat.{ℕ, suc, _+_, _-_, _*_, _/_, _≤_, _<_}
 use native.Mathlib.Nat.{mul-le-mul-left, mul-add, mul-assoc, mul-comm, div-add-mod, mod-lt, mul-suc, mul-zero, mul-one, mul-mod-right, zero-mod}
 use native.Mathlib.Omega.{arith}

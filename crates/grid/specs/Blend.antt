@@ -2,14 +2,21 @@
 use Prim.Native.Nat.{ℕ, _-_, _*_, _≤_, _^_}
 use mathlib.Core.Path.{_≡_}
 use mathlib.Core.Bool.{Bool, false, not}
-use lib.Dec.{eqb}
+use lib.Dec.{eqb, leb}
 use lib.IntN.{ℤ, pos, _+ℤ_, _-ℤ_, _*ℤ_, natAbs}
 use lib.Signed.{_≤ℤ_}
 use Rattle.std.specs.Numbers.{divEuclid, remEuclid, minZ, maxZ}
 
+-- the greatest coordinate; the least is its negative
+abbrev pub limit : ℕ
+limit = 2 ^ 30
+
 -- a coordinate is a whole number from -2^30 to 2^30
 abbrev pub Coordinate : ℤ → Type 0
-Coordinate z = natAbs z ≤ 2 ^ 30
+Coordinate z = natAbs z ≤ limit
+
+abbrev pub isCoordinate : ℤ → Bool
+isCoordinate z = leb (natAbs z) limit
 
 -- a of b: where between two points a blend is taken
 pub record Ratio (a b : ℕ) : Type 0 where
@@ -46,6 +53,8 @@ pub record BlendLaw (p q : ℤ) (a b : ℕ) (mean : ℤ) (rough : Bool) : Type 0
   -- between p and q
   pub low : minZ p q ≤ℤ mean
   pub high : mean ≤ℤ maxZ p q
+  -- it never falls as its two rise
+  pub rises : (p′ q′ : ℤ) → p ≤ℤ p′ → q ≤ℤ q′ → mean ≤ℤ blended p′ q′ a b
   -- at none of b it is p, at all of b it is q
   pub first : a ≡ 0 → mean ≡ p
   pub last : a ≡ b → mean ≡ q

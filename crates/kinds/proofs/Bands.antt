@@ -12,7 +12,8 @@ use Rattle.std.specs.Numbers.{minZ, maxZ}
 use Rattle.std.proofs.shelf.Signed.{clamps}
 use Rattle.grid.specs.Blend.{Ratio, blended}
 use Rattle.grid.proofs.Blends as blends
-use Rattle.points.specs.Lists.{IsPoint, rising, blendPoint}
+use Rattle.points.specs.Lists.{IsPoint, blendPoint}
+use Rattle.kinds.specs.Bands.{rising}
 use Rattle.points.proofs.Shapes.{rebuilt}
 
 pub at-most : (x y : ℤ) → x ≤ℤ y → leZ x y ≡ true
@@ -39,8 +40,8 @@ pub rising-blend : (a b : ℕ) (xs ys : List ℤ) → Ratio a b → IsPoint 2 ri
 rising-blend a b xs ys r p q =
     subst (λ v. rising (blendPoint a b v ys) ≡ true) (rebuilt 2 xs (p .long))
     (subst (λ v. rising (blendPoint a b (getD xs 0 (pos 0) ∷ (getD xs 1 (pos 0) ∷ [])) v) ≡ true) (rebuilt 2 ys (q .long))
-    (at-most _ _ (blends.rising _ _ _ _ a b r (from-test _ _ (p .passed)) (from-test _ _ (q .passed)))))
+    (at-most _ _ (blends.rises _ _ _ _ a b r (from-test _ _ (p .passed)) (from-test _ _ (q .passed)))))
 
 -- the blends of the lesser and of the greater ends come in order
 pub blend-in-order : (l h l′ h′ : ℤ) (a b : ℕ) → Ratio a b → blended (minZ l h) (minZ l′ h′) a b ≤ℤ blended (maxZ l h) (maxZ l′ h′) a b
-blend-in-order l h l′ h′ a b r = blends.rising _ _ _ _ a b r (least-greatest l h) (least-greatest l′ h′)
+blend-in-order l h l′ h′ a b r = blends.rises _ _ _ _ a b r (least-greatest l h) (least-greatest l′ h′)

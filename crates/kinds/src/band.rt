@@ -1,8 +1,9 @@
 ghost use mathlib.Core.List.{[], _∷_};
 ghost use mathlib.Core.Path.{_≡_};
 ghost use Rattle.std.specs.Numbers.{minZ, maxZ};
-ghost use Rattle.points.specs.Lists.{rising, negated};
+ghost use Rattle.points.specs.Lists.{negated};
 ghost use Rattle.points.specs.Stored.{clamped};
+ghost use Rattle.kinds.specs.Bands.{rising};
 use points::point::Point;
 use points::stored::mix;
 use points::stored::opposite;

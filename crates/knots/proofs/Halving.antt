@@ -9,7 +9,7 @@ use Rattle.std.proofs.shelf.Tests.{le-leb, lt-leb}
 use Rattle.grid.proofs.Searches.{last-found}
 use Rattle.knots.specs.Lawful.{Lawful, firstKnot, lastKnot}
 use Rattle.knots.specs.Spans.{spanOf, Span}
-use Rattle.knots.proofs.Lawfuls.{lawful-count, lawful-length, lawful-rises, lawful-first, lawful-last}
+use Rattle.knots.proofs.Lawfuls.{lawful-first, lawful-last}
 
 -- u lies in one of the spans of the indices from low on, size of them
 pub record Halved (d count : ℕ) (ks : List ℕ) (u low size : ℕ) : Type 0 where
@@ -21,15 +21,15 @@ pub record Halved (d count : ℕ) (ks : List ℕ) (u low size : ℕ) : Type 0 wh
 
 pub halved-none : (d count : ℕ) (ks : List ℕ) (u : ℕ) → Lawful d count ks → firstKnot ks ≤ u → u < lastKnot ks → Halved d count ks u d (count - d)
 halved-none d count ks u lawful p q =
-    let many = lawful-count d count ks lawful in
-    let long = lawful-length d count ks lawful in
+    let many = lawful .number in
+    let long = lawful .long in
     let first = lawful-first d count ks lawful d (omega arith) in
     let last = lawful-last d count ks lawful (d + (count - d)) (omega arith) (omega arith) in
     record { deep = omega arith; some = omega arith; within = omega arith; from = omega arith; to = omega arith }
 
 module _ {d count : ℕ} {ks : List ℕ} {u low size : ℕ} (halved : Halved d count ks u low size) (lawful : Lawful d count ks) where
   pub halved-within : low + size < length ks
-  halved-within = omega (arith, lawful-length d count ks lawful)
+  halved-within = omega (arith, lawful .long)
 
   pub halved-right : 1 < size → getD ks (low + size / 2) 0 ≤ u → Halved d count ks u (low + size / 2) (size - size / 2)
   halved-right s p =
@@ -38,7 +38,7 @@ module _ {d count : ℕ} {ks : List ℕ} {u low size : ℕ} (halved : Halved d c
 
   pub halved-left : 1 < size → u < getD ks (low + size / 2) 0 → Halved d count ks u low (size - size / 2)
   halved-left s p =
-      let up = lawful-rises d count ks lawful (low + size / 2) (low + (size - size / 2)) (omega arith) (omega (arith, halved-within)) in
+      let up = lawful .rises (low + size / 2) (low + (size - size / 2)) (omega arith) (omega (arith, halved-within)) in
       record { deep = halved .deep; some = omega arith; within = omega arith; from = halved .from; to = omega arith }
 
   -- one span is left
@@ -53,6 +53,6 @@ module _ {d count : ℕ} {ks : List ℕ} {u low size : ℕ} (halved : Halved d c
     halved-value =
         let long = halved-within in
         sym (last-found (λ i. leb (getD ks i 0) u) (length ks) low (omega arith) (le-leb _ _ (halved .from)) (λ j p q.
-        let up = lawful-rises d count ks lawful (suc low) j p q in
+        let up = lawful .rises (suc low) j p q in
         let past = next in
         lt-leb _ _ (omega arith)))

@@ -1,7 +1,8 @@
 -- Lawful degrees, counts and knot lists, and the causes that refuse the others.
-use Prim.Native.Nat.{ℕ, suc, _+_, _-_, _^_}
+use Prim.Native.Nat.{ℕ, suc, _+_, _-_, _^_, _≤_, _<_}
 use mathlib.Core.Path.{_≡_}
 use mathlib.Core.Bool.{Bool, not, cond, _&&_, _||_}
+use mathlib.Core.Logic.{_≢_}
 use mathlib.Core.List.{List, [], _∷_, _++_, map}
 use lib.Dec.{eqb, leb, ltb}
 use lib.IntN.{ℤ, pos, natAbs}
@@ -21,7 +22,7 @@ isDegree degree = leZ (pos 1) degree && leZ degree (pos 5)
 
 -- a piece of degree d has from d + 1 to 64 control points
 abbrev pub isCount : ℕ → ℕ → Bool
-isCount d count = leb (suc d) count && leb count 64
+isCount d count = leb (d + 1) count && leb count 64
 
 -- a knot is 0 to 1,048,576
 abbrev pub isKnot : ℤ → Bool
@@ -40,7 +41,20 @@ lastKnot ks = getD ks (length ks - 1) 0
 
 -- the first and the last value stand d + 1 times, any other at most d times
 abbrev pub repeatsWell : ℕ → List ℕ → ℕ → Bool
-repeatsWell d ks x = cond (eqb x (firstKnot ks) || eqb x (lastKnot ks)) (eqb (times x ks) (suc d)) (leb (times x ks) d)
+repeatsWell d ks x = cond (eqb x (firstKnot ks) || eqb x (lastKnot ks)) (eqb (times x ks) (d + 1)) (leb (times x ks) d)
+
+-- What makes degree d, a number of control points and knots lawful: d is 1 to 5, the control points are d + 1 to 64, and
+-- the knots count + d + 1; a knot is at most 1,048,576; knots never fall; the first and the last value stand d + 1 times,
+-- and any other value at most d times.
+pub record Lawful (d count : ℕ) (ks : List ℕ) : Type 0 where
+  pub degree : (1 ≤ d) × (d ≤ 5)
+  pub number : (d + 1 ≤ count) × (count ≤ 64)
+  pub long : length ks ≡ count + d + 1
+  pub ranged : (i : ℕ) → i < length ks → getD ks i 0 ≤ 2 ^ 20
+  pub rises : (i j : ℕ) → i ≤ j → j < length ks → getD ks i 0 ≤ getD ks j 0
+  pub first : times (firstKnot ks) ks ≡ d + 1
+  pub last : times (lastKnot ks) ks ≡ d + 1
+  pub inner : (i : ℕ) → i < length ks → getD ks i 0 ≢ firstKnot ks → getD ks i 0 ≢ lastKnot ks → times (getD ks i 0) ks ≤ d
 
 -- the first knot that is not 0 to 1,048,576, by its index
 abbrev pub firstOutside : List ℤ → Option ℕ
@@ -63,17 +77,18 @@ disorder d ks =
 
 -- Why degree, number of control points and knots, as the caller has them, make no piece: the first cause that holds.
 -- Knots in range are whole numbers from 0 up, so their order and repeats are those of their magnitudes.
-abbrev pub refusal : ℤ → ℕ → List ℤ → Option PieceFault
-refusal degree count knots =
+abbrev pub pieceRefusal : ℤ → ℕ → List ℤ → Option PieceFault
+pieceRefusal degree count knots =
     unless (isDegree degree) Degree
     (unless (isCount (natAbs degree) count) Count
     (unless (eqb (length knots) (count + natAbs degree + 1)) KnotCount
     (at (firstOutside knots) KnotRange
     (disorder (natAbs degree) (map natAbs knots)))))
 
--- degree, count and knots that nothing refuses
-abbrev pub Lawful : ℕ → ℕ → List ℕ → Type 0
-Lawful d count ks = refusal (pos d) count (map pos ks) ≡ None
+-- The causes refuse nothing that is lawful, and all else.
+abbrev pub Refuses-the-unlawful : Type 0
+Refuses-the-unlawful =
+    (d count : ℕ) (ks : List ℕ) → (pieceRefusal (pos d) count (map pos ks) ≡ None → Lawful d count ks) × (Lawful d count ks → pieceRefusal (pos d) count (map pos ks) ≡ None)
 
 -- what a record stores of them: the knots first, then 0
 pub record Stores (degree : ℤ) (count : ℕ) (knots : List ℤ) (l : KnotList) : Type 0 where

@@ -7,7 +7,7 @@ ghost use lib.ListN.{length, take, replicate};
 ghost use lib.IntN.{pos, natAbs};
 ghost use Rattle.std.specs.Results.{Cases};
 ghost use Rattle.std.specs.declared.option.Option.the-variants.{Some, None};
-ghost use Rattle.knots.specs.Lawful.{refusal, Stores, Lawful, isDegree, isCount, isKnot, times, repeatsWell, firstOutside, firstFall, firstIllRepeated};
+ghost use Rattle.knots.specs.Lawful.{pieceRefusal, Stores, Lawful, isDegree, isCount, isKnot, times, repeatsWell, firstOutside, firstFall, firstIllRepeated};
 ghost use Rattle.refusals.specs.declared.piece.PieceFault.the-variants.{Degree, Count, KnotCount, KnotRange, KnotFalls, KnotRepeats};
 use crate::list::KnotList;
 use crate::list::MOST_KNOTS;
@@ -139,8 +139,8 @@ fn judge_repeats(degree: usize, knots: &[u32]) -> Result<(), PieceFault>
 // where they are lawful: causes 4 to 9, the smallest number first.
 pub fn judge(degree: i64, count: usize, knots: &[i64]) -> Result<KnotList, PieceFault>
     ensures judged { λ r. ⌜ Cases r
-        (λ l. (refusal degree count (now (knots .entry)) ≡ None) × Stores degree count (now (knots .entry)) l)
-        (λ e. refusal degree count (now (knots .entry)) ≡ Some e) ⌝ }
+        (λ l. (pieceRefusal degree count (now (knots .entry)) ≡ None) × Stores degree count (now (knots .entry)) l)
+        (λ e. pieceRefusal degree count (now (knots .entry)) ≡ Some e) ⌝ }
     ensures lawful { λ r. ⌜ Cases r
         (λ l. Lawful (l .degree) (l .count) (take (l .count + l .degree + 1) (l .knots)) × (l .count + l .degree + 1 ≤ 70))
         (λ _. Unit {0}) ⌝ }

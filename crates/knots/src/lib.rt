@@ -1,5 +1,6 @@
-//! Lawful knot lists: what makes one, its causes of refusal, and the span of a parameter.
+//! Lawful knot lists: what makes one, its causes of pieceRefusal, and the span of a parameter.
 
 pub mod judge;
 pub mod list;
+pub mod rule;
 pub mod span;

@@ -9,8 +9,8 @@ use lib.Seq.{length-take-le}
 use Rattle.std.proofs.shelf.Lists.{getD-take, getD-drop, take-map, drop-map}
 use Rattle.knots.specs.Lawful.{Lawful}
 use Rattle.knots.specs.Spans.{Span}
-use Rattle.knots.proofs.Lawfuls.{lawful-degree, lawful-length, lawful-range, lawful-rises}
-use Rattle.pieces.specs.Triangle.{Around, deBoor}
+use Rattle.pieces.specs.Around.{Around}
+use Rattle.pieces.specs.Triangle.{deBoor}
 use Rattle.pieces.proofs.Shifts.{deBoor-shifted}
 
 -- element j of the part of n elements from m on
@@ -22,7 +22,7 @@ part-length xs m n h = let e = length-drop m xs in length-take-le n (drop m xs) 
 
 module _ (d count : ℕ) (ks : List ℕ) (u k : ℕ) (law : Lawful d count ks) (span : Span d count ks u k) where
   pub within : k + d + 1 ≤ length ks
-  within = let l = lawful-length d count ks law in let w = span .within in omega arith
+  within = let l = law .long in let w = span .within in omega arith
 
   -- how many knots and points the parts have
   pub knots-size : k + d + 1 - (k - d) ≡ d + d + 1
@@ -41,16 +41,16 @@ module _ (d count : ℕ) (ks : List ℕ) (u k : ℕ) (law : Lawful d count ks) (
       let at : (j : ℕ) → j ≤ d + d → getD (take (d + d + 1) (drop m ks)) j 0 ≡ getD ks (m + j) 0 = λ j h. part-at ks m (d + d + 1) j 0 (omega arith) in
       let size = part-length ks m (d + d + 1) (omega arith) in
       record {
-        degree = lawful-degree d count ks law;
+        degree = law .degree;
         long = omega arith;
         below = λ j a b.
             let e = at j (omega arith) in
-            let r = lawful-rises d count ks law (m + j) k (omega arith) (omega arith) in
+            let r = law .rises (m + j) k (omega arith) (omega arith) in
             omega arith;
         above = λ j a b.
             let e = at j b in
-            let r = lawful-rises d count ks law (suc k) (m + j) (omega arith) (omega arith) in
-            let t = lawful-range d count ks law (m + j) (omega arith) in
+            let r = law .rises (suc k) (m + j) (omega arith) (omega arith) in
+            let t = law .ranged (m + j) (omega arith) in
             (omega arith, omega arith);
       }
 

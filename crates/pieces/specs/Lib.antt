@@ -1,3 +1,4 @@
 pub mod Sections
 pub mod Triangle
 pub mod Reading
+pub mod Around

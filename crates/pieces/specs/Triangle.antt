@@ -33,10 +33,3 @@ inexactRounds d ks ps u k (suc r) =
 -- what the triangle over span k gives: the last entry of the last round, and the number of rounds with an inexact blend
 unfoldable pub deBoor : ℕ → List ℕ → List (List ℤ) → ℕ → ℕ → List ℤ × ℕ
 deBoor d ks ps u k = (entry d ks ps u d k, inexactRounds d ks ps u k d)
-
--- knots that hold u in their middle span, with d on either side of it
-pub record Around (d : ℕ) (ks : List ℕ) (u : ℕ) : Type 0 where
-  pub degree : (1 ≤ d) × (d ≤ 5)
-  pub long : d + d + 1 ≤ length ks
-  pub below : (j : ℕ) → 1 ≤ j → j ≤ d → getD ks j 0 ≤ u
-  pub above : (j : ℕ) → d < j → j ≤ d + d → (u < getD ks j 0) × (getD ks j 0 ≤ 2 ^ 20)

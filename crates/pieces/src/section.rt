@@ -2,12 +2,10 @@ ghost use mathlib.Core.Path.{_≡_};
 ghost use mathlib.Core.List.{map};
 ghost use Prim.Native.Nat.{_+_, _≤_};
 ghost use lib.ListN.{length, take, drop};
-ghost use denote.Ref.{now as behind};
 ghost use Rattle.std.specs.Results.{Cases};
 ghost use Rattle.std.specs.declared.option.Option.the-variants.{Some, None};
-ghost use Rattle.knots.specs.Lawful.{Lawful, refusal};
-ghost use Rattle.points.specs.Rows.{rowRefusal};
-ghost use Rattle.pieces.specs.Sections.{either};
+ghost use Rattle.knots.specs.Lawful.{Lawful, Stores};
+ghost use Rattle.pieces.specs.Sections.{sectionRefusal};
 use knots::judge::judge;
 use knots::list::KnotList;
 use points::point::Point;
@@ -24,15 +22,16 @@ pub fn lay<P: Point>(
     points: &[&[i64]],
     memory: &mut [P],
 ) -> Result<KnotList, SectionFault>
-    requires { ⌜ length (now memory) ≡ 64 ⌝ }
+    requires { ⌜ 64 ≤ length (now memory) ⌝ }
     ensures refusal { λ r. ⌜ Cases r
-        (λ _. either (refusal degree (length (now (points .entry))) (now (knots .entry))) (rowRefusal width passes 0 (map behind (now (points .entry)))) ≡ None)
-        (λ e. either (refusal degree (length (now (points .entry))) (now (knots .entry))) (rowRefusal width passes 0 (map behind (now (points .entry)))) ≡ Some e) ⌝ }
+        (λ l. (sectionRefusal width passes degree (length (now (points .entry))) (now (knots .entry)) (map now (now (points .entry))) ≡ None)
+        × Stores degree (length (now (points .entry))) (now (knots .entry)) l)
+        (λ e. sectionRefusal width passes degree (length (now (points .entry))) (now (knots .entry)) (map now (now (points .entry))) ≡ Some e) ⌝ }
     ensures lawful { λ r. ⌜ Cases r
-        (λ l. Lawful (l .degree) (l .count) (take (l .count + l .degree + 1) (l .knots)) × (l .count + l .degree + 1 ≤ 70) × (l .count ≡ length (now (points .entry))))
+        (λ l. Lawful (l .degree) (l .count) (take (l .count + l .degree + 1) (l .knots)) × (l .count + l .degree + 1 ≤ 70))
         (λ _. Unit {0}) ⌝ }
     ensures memory { λ r. ⌜ Cases r
-        (λ _. (map told (take (length (now (points .entry))) (now (memory .exit))) ≡ map behind (now (points .entry)))
+        (λ _. (map told (take (length (now (points .entry))) (now (memory .exit))) ≡ map now (now (points .entry)))
         × (drop (length (now (points .entry))) (now (memory .exit)) ≡ drop (length (now (points .entry))) (now (memory .entry))))
         (λ _. now (memory .exit) ≡ now (memory .entry)) ⌝ }
 {

@@ -8,7 +8,8 @@ ghost use lib.ListN.{length, getD, set};
 ghost use Rattle.grid.specs.Blend.{Ratio};
 ghost use Rattle.grid.specs.Search.{anyWhere};
 ghost use Rattle.points.specs.Lists.{blendPoint, inexactPoint};
-ghost use Rattle.pieces.specs.Triangle.{between, inexactBetween, deBoor, Around};
+ghost use Rattle.pieces.specs.Triangle.{between, inexactBetween, deBoor};
+ghost use Rattle.pieces.specs.Around.{Around};
 use points::point::Point;
 
 // Puts the blend of entries j - 1 and j at place j, and says whether it is inexact.
@@ -66,7 +67,7 @@ fn fill<P: Point>(room: &mut [P], polygon: &[P], knots: &[u32], degree: usize, u
     rounds(room, knots, degree, u)
 }
 
-// The triangle in a room of a size that the compiler knows, and with it the number of rounds.
+// The triangle in a room of its own, one of five sizes.
 fn in_room<P: Point, const ROOM: usize>(
     polygon: &[P],
     knots: &[u32],
@@ -83,7 +84,7 @@ fn in_room<P: Point, const ROOM: usize>(
 }
 
 // The point at u of the degree + 1 control points that govern it, and the number of rounds with
-// an inexact blend; of the knots the first and the last of degree + degree + 1 frame the span.
+// an inexact blend; the knots are those from the first control point's on.
 pub(crate) fn triangle<P: Point>(polygon: &[P], knots: &[u32], degree: usize, u: u32) -> (P, usize)
     requires around { ⌜ Around degree (now knots) u ⌝ }
     requires polygon { ⌜ length (now polygon) ≡ degree + 1 ⌝ }

@@ -16,12 +16,14 @@ use Rattle.std.proofs.shelf.Lists.{getD-past}
 use Rattle.std.proofs.shelf.Tests.{leb-true, eq-eqb, eqb-true, not-false, cases-lt}
 use Rattle.grid.specs.Blend.{Coordinate}
 use Rattle.refusals.specs.Order.{unless, at}
+use Rattle.refusals.proofs.Orders.{some-none, unless-passed, at-passed}
 use Rattle.grid.specs.Search.{firstWhere}
 use Rattle.grid.proofs.Searches.{first-none, first-found, none-where, first-within}
 use Rattle.refusals.specs.declared.point.PointFault.{PointFault}
 use Rattle.refusals.specs.declared.point.PointFault.the-variants.{Count, Range, Test}
 use Rattle.refusals.specs.Causes.{pointReport}
-use Rattle.points.specs.Lists.{IsPoint, inRange, misshapen, refusal}
+use Rattle.grid.specs.Blend.{isCoordinate}
+use Rattle.points.specs.Lists.{IsPoint, misshapen, pointRefusal}
 use Rattle.points.specs.Stored.{clamped}
 use Rattle.points.proofs.Clamping.{clamped-coordinate}
 
@@ -44,7 +46,7 @@ clamped-ranged (z ∷ zs) = ranged-more (clamped z) (map clamped zs) (clamped-co
 
 -- a coordinate out of range
 abbrev pub out : List ℤ → ℕ → Bool
-out xs i = not (inRange (getD xs i (pos 0)))
+out xs i = not (isCoordinate (getD xs i (pos 0)))
 
 module _ (xs : List ℤ) (width : ℕ) (e : length xs ≡ width) (after : Option PointFault) where
   shaped : misshapen width xs after ≡ at (firstWhere (out xs) 0 (length xs)) Range after
@@ -63,16 +65,6 @@ all-ranged xs all i =
     (λ (g : length xs ≤ i). subst Coordinate (sym (getD-past xs i (pos 0) g)) (omega arith))
     (cases-lt i (length xs))
 
-some-none : {X : Type 0} {x : X} → Some x ≡ None → ⊥
-some-none e = let bad : _≡_ {A = ℕ} 0 1 = cc in omega arith
-
--- the three steps of a refusal, where it refuses nothing and where it refuses
-passed-steps : (long : Bool) (wild : Option ℕ) (passed : Bool) → unless long Count (at wild Range (unless passed Test None)) ≡ None → (long ≡ true) × (wild ≡ None) × (passed ≡ true)
-passed-steps true None true e = (refl, refl, refl)
-passed-steps true None false e = absurd (some-none e)
-passed-steps true (Some i) passed e = absurd (some-none e)
-passed-steps false wild passed e = absurd (some-none e)
-
 same-place : (f g : PointFault) (n : ℕ) → Some f ≡ Some g → pointReport f .place ≤ n → pointReport g .place ≤ n
 same-place f g n e h = let s : f ≡ g = cc in subst (λ v. pointReport v .place ≤ n) s h
 
@@ -85,17 +77,19 @@ failed-place false wild passed fault n h e = same-place Count fault n e (omega a
 
 module _ (width : ℕ) (passes : List ℤ → Bool) (xs : List ℤ) where
   -- a list that nothing refuses is a point
-  pub accepted : refusal width passes xs ≡ None → IsPoint width passes xs
+  pub accepted : pointRefusal width passes xs ≡ None → IsPoint width passes xs
   accepted e =
-      let parts = passed-steps (eqb (length xs) width) (firstWhere (out xs) 0 (length xs)) (passes xs) e in
+      let long = unless-passed (eqb (length xs) width) Count _ e in
+      let inside = at-passed (firstWhere (out xs) 0 (length xs)) Range _ (long .1) in
+      let passing = unless-passed (passes xs) Test None (inside .1) in
       record {
-        long = eqb-true _ _ (parts .0);
-        ranged = all-ranged xs (λ k low h. none-where (out xs) 0 (length xs) k (parts .1) low (omega arith));
-        passed = parts .2;
+        long = eqb-true _ _ (long .0);
+        ranged = all-ranged xs (λ k low h. none-where (out xs) 0 (length xs) k (inside .0) low (omega arith));
+        passed = passing .0;
       }
 
   -- the place of a fault lies within the list
-  pub fault-place : (fault : PointFault) → refusal width passes xs ≡ Some fault → pointReport fault .place ≤ width
+  pub fault-place : (fault : PointFault) → pointRefusal width passes xs ≡ Some fault → pointReport fault .place ≤ width
   fault-place fault e =
       failed-place (eqb (length xs) width) (firstWhere (out xs) 0 (length xs)) (passes xs) fault width
       (λ i t f. let l = first-within (out xs) 0 (length xs) i f in let n = eqb-true _ _ t in omega arith) e

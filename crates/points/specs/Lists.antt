@@ -9,7 +9,7 @@ use lib.ListN.{length, getD}
 use lib.Signed.{leZ}
 use Rattle.std.specs.declared.option.Option.{Option}
 use Rattle.std.specs.declared.option.Option.the-variants.{None}
-use Rattle.grid.specs.Blend.{Coordinate, blended, inexact}
+use Rattle.grid.specs.Blend.{Coordinate, isCoordinate, blended, inexact}
 use Rattle.refusals.specs.Order.{unless, at}
 use Rattle.grid.specs.Search.{firstWhere}
 use Rattle.refusals.specs.declared.point.PointFault.{PointFault}
@@ -22,20 +22,16 @@ pub record IsPoint (width : ℕ) (passes : List ℤ → Bool) (xs : List ℤ) : 
   pub ranged : (i : ℕ) → Coordinate (getD xs i (pos 0))
   pub passed : passes xs ≡ true
 
--- a number is in a coordinate's range
-abbrev pub inRange : ℤ → Bool
-inRange z = leb (natAbs z) (2 ^ 30)
-
 -- why a list has not the shape of a point: the wrong number of coordinates, then the first one out of range
 abbrev pub misshapen : ℕ → List ℤ → Option PointFault → Option PointFault
 misshapen width xs after =
     unless (eqb (length xs) width) Count
-    (at (firstWhere (λ i. not (inRange (getD xs i (pos 0)))) 0 (length xs)) Range
+    (at (firstWhere (λ i. not (isCoordinate (getD xs i (pos 0)))) 0 (length xs)) Range
     after)
 
 -- why a list is no point of a kind: its shape, then the kind's test
-abbrev pub refusal : ℕ → (List ℤ → Bool) → List ℤ → Option PointFault
-refusal width passes xs = misshapen width xs (unless (passes xs) Test None)
+abbrev pub pointRefusal : ℕ → (List ℤ → Bool) → List ℤ → Option PointFault
+pointRefusal width passes xs = misshapen width xs (unless (passes xs) Test None)
 
 -- the blend of two points at a of b, coordinate by coordinate
 abbrev pub blendPoint : ℕ → ℕ → List ℤ → List ℤ → List ℤ
@@ -67,9 +63,6 @@ turned t xs = cond (t .negative) (negℤ (getD xs (t .from) (pos 0))) (getD xs (
 abbrev pub flipped : List Turn → List ℤ → List ℤ
 flipped turns xs = map (λ t. turned t xs) turns
 
--- two tests of kinds: none at all, and that the first coordinate is at most the second
+-- the test of a kind that has none
 abbrev pub unconditional : List ℤ → Bool
 unconditional xs = true
-
-abbrev pub rising : List ℤ → Bool
-rising xs = leZ (getD xs 0 (pos 0)) (getD xs 1 (pos 0))

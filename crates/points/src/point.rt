@@ -6,8 +6,8 @@ ghost use lib.ListN.{length, getD};
 ghost use lib.IntN.{ℤ, pos};
 ghost use Rattle.std.specs.Results.{Cases};
 ghost use Rattle.std.specs.declared.option.Option.the-variants.{Some, None};
-ghost use Rattle.grid.specs.Blend.{Coordinate, Ratio};
-ghost use Rattle.points.specs.Lists.{IsPoint, Turn, refusal, misshapen, inRange, blendPoint, inexactPoint, flipped};
+ghost use Rattle.grid.specs.Blend.{Coordinate, Ratio, isCoordinate};
+ghost use Rattle.points.specs.Lists.{IsPoint, Turn, pointRefusal, misshapen, blendPoint, inexactPoint, flipped};
 use refusals::point::PointFault;
 
 // A kind of point. A point means a list of coordinates: `told` says which list a record means,
@@ -57,7 +57,7 @@ pub trait Point: Copy {
 
     // The point that a list means, or why it means none.
     fn make(xs: &[i64]) -> Result<Self, PointFault>
-        ensures { λ r. ⌜ Cases r (λ p. (refusal width passes (now (xs .entry)) ≡ None) × (told p ≡ now (xs .entry))) (λ e. refusal width passes (now (xs .entry)) ≡ Some e) ⌝ }
+        ensures { λ r. ⌜ Cases r (λ p. (pointRefusal width passes (now (xs .entry)) ≡ None) × (told p ≡ now (xs .entry))) (λ e. pointRefusal width passes (now (xs .entry)) ≡ Some e) ⌝ }
     {
         shape(xs, Self::wide())?;
         if Self::admits(xs) {
@@ -83,7 +83,7 @@ pub trait Point: Copy {
 }
 
 fn in_range(x: i64) -> bool
-    ensures { λ r. ⌜ r ≡ inRange x ⌝ }
+    ensures { λ r. ⌜ r ≡ isCoordinate x ⌝ }
 {
     x.unsigned_abs() <= 1_073_741_824
 }

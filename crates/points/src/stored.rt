@@ -8,12 +8,20 @@ ghost use Rattle.grid.specs.Blend.{Coordinate, Ratio, blended, inexact};
 ghost use Rattle.points.specs.Stored.{clamped};
 use grid::blend::blend;
 
+// The number, or the nearest limit where it is out of range.
+fn limited(stored: i32) -> i32
+    ensures value { λ r. ⌜ r ≡ clamped stored ⌝ }
+    ensures coordinate { λ r. ⌜ Coordinate r ⌝ }
+{
+    stored.clamp(-1_073_741_824, 1_073_741_824)
+}
+
 // A stored number as it is told.
 pub fn tell(stored: i32) -> i32
     ensures value { λ r. ⌜ r ≡ clamped stored ⌝ }
     ensures coordinate { λ r. ⌜ Coordinate r ⌝ }
 {
-    stored.clamp(-1_073_741_824, 1_073_741_824)
+    limited(stored)
 }
 
 // A coordinate to be stored, which is told as it is.

@@ -4,7 +4,8 @@ use mathlib.Core.Path.{refl, sym, ap, subst, _∙_}
 use mathlib.Core.List.{map}
 use lib.ListN.{length, take, drop}
 use Prim.Native.Nat.{_+_, _-_}
-use Rattle.pieces.specs.Triangle.{Around, deBoor}
+use Rattle.pieces.specs.Around.{Around}
+use Rattle.pieces.specs.Triangle.{deBoor}
 use Rattle.pieces.proofs.Windows.{within, around, governed, knots-size, points-size, part-length}
 use Rattle.pieces.proofs.reading.read_span.Needs as need
 

@@ -1,6 +1,6 @@
 use borrow.Author.Needs.{needs}
 use Rattle.points.specs.Stored.{clamped}
-use Rattle.points.proofs.stored.tell.Needs as need
+use Rattle.points.proofs.stored.limited.Needs as need
 
 pub returns : need.returns
 unfolding clamped

@@ -135,6 +135,15 @@ fn judge_repeats(degree: usize, knots: &[u32]) -> Result<(), PieceFault>
     Ok(())
 }
 
+// The record of what nothing refuses, which is lawful.
+fn listed(degree: usize, count: usize, knots: [u32; MOST_KNOTS]) -> KnotList
+    requires { ⌜ pieceRefusal (pos degree) count (map pos (take (count + degree + 1) knots)) ≡ None ⌝ }
+    ensures fields { λ l. ⌜ (l .degree ≡ degree) × (l .count ≡ count) × (l .knots ≡ knots) ⌝ }
+    ensures lawful { λ l. ⌜ Lawful (l .degree) (l .count) (take (l .count + l .degree + 1) (l .knots)) ⌝ }
+{
+    KnotList { degree, count, knots }
+}
+
 // Judges degree, number of control points and knots as the caller has them, and stores them
 // where they are lawful: causes 4 to 9, the smallest number first.
 pub fn judge(degree: i64, count: usize, knots: &[i64]) -> Result<KnotList, PieceFault>
@@ -152,9 +161,5 @@ pub fn judge(degree: i64, count: usize, knots: &[i64]) -> Result<KnotList, Piece
     let in_use = &stored[0..knots.len()];
     judge_order(in_use)?;
     judge_repeats(degree, in_use)?;
-    Ok(KnotList {
-        degree,
-        count,
-        knots: stored,
-    })
+    Ok(listed(degree, count, stored))
 }

@@ -141,7 +141,11 @@ fn listed(degree: usize, count: usize, knots: [u32; MOST_KNOTS]) -> KnotList
     ensures fields { λ l. ⌜ (l .degree ≡ degree) × (l .count ≡ count) × (l .knots ≡ knots) ⌝ }
     ensures lawful { λ l. ⌜ Lawful (l .degree) (l .count) (take (l .count + l .degree + 1) (l .knots)) ⌝ }
 {
-    KnotList { degree, count, knots }
+    KnotList {
+        degree,
+        count,
+        knots,
+    }
 }
 
 // Judges degree, number of control points and knots as the caller has them, and stores them

@@ -23,12 +23,12 @@ use Rattle.refusals.specs.declared.point.PointFault.{PointFault}
 use Rattle.refusals.specs.declared.point.PointFault.the-variants.{Count, Range, Test}
 use Rattle.refusals.specs.Causes.{pointReport}
 use Rattle.grid.specs.Blend.{isCoordinate}
-use Rattle.points.specs.Lists.{IsPoint, misshapen, pointRefusal}
+use Rattle.points.specs.Lists.{IsPoint, coordinates, misshapen, pointRefusal}
 use Rattle.points.specs.Stored.{clamped}
 use Rattle.points.proofs.Clamping.{clamped-coordinate}
 
 -- a list is made of its own elements
-pub rebuilt : (n : ℕ) (xs : List ℤ) → length xs ≡ n → map (λ k. getD xs k (pos 0)) (counting 0 n) ≡ xs
+pub rebuilt : (n : ℕ) (xs : List ℤ) → length xs ≡ n → coordinates n xs ≡ xs
 rebuilt n xs e = sym (fill-by-all (λ k. getD xs k (pos 0)) xs n (pos 0) e (λ k h. refl))
 
 -- the coordinates of a list, one by one; past the last one 0 stands, a coordinate too

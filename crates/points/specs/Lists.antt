@@ -7,6 +7,7 @@ use lib.Dec.{eqb, leb}
 use lib.IntN.{ℤ, pos, negℤ, natAbs}
 use lib.ListN.{length, getD}
 use lib.Signed.{leZ}
+use Rattle.std.specs.Iters.{counting}
 use Rattle.std.specs.declared.option.Option.{Option}
 use Rattle.std.specs.declared.option.Option.the-variants.{None}
 use Rattle.grid.specs.Blend.{Coordinate, isCoordinate, blended, inexact}
@@ -21,6 +22,10 @@ pub record IsPoint (width : ℕ) (passes : List ℤ → Bool) (xs : List ℤ) : 
   pub long : length xs ≡ width
   pub ranged : (i : ℕ) → Coordinate (getD xs i (pos 0))
   pub passed : passes xs ≡ true
+
+-- the first n coordinates of a list, one by one
+abbrev pub coordinates : ℕ → List ℤ → List ℤ
+coordinates n xs = map (λ i. getD xs i (pos 0)) (counting 0 n)
 
 -- why a list has not the shape of a point: the wrong number of coordinates, then the first one out of range
 abbrev pub misshapen : ℕ → List ℤ → Option PointFault → Option PointFault

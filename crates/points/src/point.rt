@@ -7,7 +7,7 @@ ghost use lib.IntN.{ℤ, pos};
 ghost use Rattle.std.specs.Results.{Cases};
 ghost use Rattle.std.specs.declared.option.Option.the-variants.{Some, None};
 ghost use Rattle.grid.specs.Blend.{Coordinate, Ratio, isCoordinate};
-ghost use Rattle.points.specs.Lists.{IsPoint, Turn, pointRefusal, misshapen, blendPoint, inexactPoint, flipped};
+ghost use Rattle.points.specs.Lists.{IsPoint, Turn, pointRefusal, misshapen, coordinates, blendPoint, inexactPoint, flipped};
 use refusals::point::PointFault;
 
 // A kind of point. A point means a list of coordinates: `told` says which list a record means,
@@ -50,9 +50,10 @@ pub trait Point: Copy {
         requires { ⌜ length (now xs) ≡ width ⌝ }
         ensures { λ r. ⌜ r ≡ passes (now (xs .entry)) ⌝ };
 
-    // The point that a list means.
+    // The point that a list means; the list is what its coordinates make, one by one.
     fn of(xs: &[i64]) -> Self
-        requires { ⌜ IsPoint width passes (now xs) ⌝ }
+        requires point { ⌜ IsPoint width passes (now xs) ⌝ }
+        requires listed { ⌜ coordinates width (now xs) ≡ now xs ⌝ }
         ensures { λ r. ⌜ told r ≡ now (xs .entry) ⌝ };
 
     // The point that a list means, or why it means none.
@@ -91,7 +92,7 @@ fn in_range(x: i64) -> bool
 // Whether a list has the shape of a point: its length first, then the first coordinate out of range.
 fn shape(xs: &[i64], width: usize) -> Result<(), PointFault>
     ensures { λ r. ⌜ Cases r
-        (λ _. (misshapen width (now (xs .entry)) None ≡ None) × (length (now (xs .entry)) ≡ width) × ((k : ℕ) → Coordinate (getD (now (xs .entry)) k (pos 0))))
+        (λ _. (misshapen width (now (xs .entry)) None ≡ None) × (length (now (xs .entry)) ≡ width) × ((k : ℕ) → Coordinate (getD (now (xs .entry)) k (pos 0))) × (coordinates width (now (xs .entry)) ≡ now (xs .entry)))
         (λ e. misshapen width (now (xs .entry)) None ≡ Some e) ⌝ }
 {
     if xs.len() != width {

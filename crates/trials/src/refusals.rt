@@ -7,6 +7,8 @@ use kinds::band::Band;
 use kinds::band::BandKind;
 use kinds::plane::PlaneKind;
 use kinds::plane::PlanePoint;
+use kinds::space::SpaceKind;
+use kinds::space::SpacePoint;
 use points::point::Point;
 use refusals::report::Layer;
 use refusals::report::LayerDebug;
@@ -70,6 +72,7 @@ fn repeated_values() -> Result<(), Fail> {
     refuses(2, &[0, 0, 1, 4, 8, 8, 8], &ARC, 1, 9, Layer::Piece, 0)?;
     refuses(2, &[0, 0, 0, 0, 8, 8, 8], &ARC, 1, 9, Layer::Piece, 0)?;
     refuses(2, &[0, 0, 0, 4, 7, 8, 8], &ARC, 1, 9, Layer::Piece, 0)?;
+    refuses(2, &[0, 0, 0, 8, 8, 8, 8], &ARC, 1, 9, Layer::Piece, 0)?;
     refuses(1, &[0, 0, 4, 4, 8, 8], &ARC, 1, 9, Layer::Piece, 0)
 }
 
@@ -146,6 +149,32 @@ fn bands_and_records() -> Result<(), Fail> {
     check_eq(far.coordinate(1), 1_073_741_824)?;
     check_eq(far.coordinate(2), 0)?;
     check_eq(far.flip().coordinate(0), 1_073_741_824)
+}
+
+// A section that is refused for its last point has written none.
+#[test]
+fn a_refused_section_writes_nothing() -> Result<(), Fail> {
+    let mut memory = [PlanePoint { x: 5, y: 6 }; 64];
+    let answer = reading(&mut memory, 1, &[0, 0, 8, 8], &[&[1, 2], &[3]], 0);
+    check(answer.is_err())?;
+    for point in memory {
+        check_eq(point.x, 5)?;
+        check_eq(point.y, 6)?;
+    }
+    Ok(())
+}
+
+#[test]
+fn widths_and_flips() -> Result<(), Fail> {
+    check_eq(PlanePoint::WIDTH, PlanePoint::wide())?;
+    check_eq(SpacePoint::WIDTH, SpacePoint::wide())?;
+    check_eq(Band::WIDTH, Band::wide())?;
+    check_eq(PlanePoint { x: 1, y: 2 }.flip().coordinate(0), -1)?;
+    check_eq(PlanePoint { x: 1, y: 2 }.flip().coordinate(1), 2)?;
+    let space = SpacePoint { x: 1, y: 2, z: 3 }.flip();
+    check_eq(space.coordinate(0), -1)?;
+    check_eq(space.coordinate(1), 2)?;
+    check_eq(space.coordinate(2), 3)
 }
 
 #[test]

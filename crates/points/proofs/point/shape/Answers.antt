@@ -10,7 +10,7 @@ use mir.Val.{SFits}
 use Rattle.std.specs.declared.option.Option.the-variants.{None}
 use Rattle.std.proofs.shelf.Signed.{toZ-ofZ}
 use Rattle.std.proofs.shelf.Tests.{cases-eq}
-use Rattle.points.proofs.Shapes.{out, out-at, out-nowhere, all-ranged}
+use Rattle.points.proofs.Shapes.{out, out-at, out-nowhere, all-ranged, rebuilt}
 use Rattle.points.proofs.point.shape.Needs as need
 
 pub loop-i-again : need.loop-i-again
@@ -35,4 +35,5 @@ returns c =
       out-nowhere xs (c .args .width) (c .if-xs-width .left) None (λ k low h. c .loop-i .inv k low (omega arith)),
       c .if-xs-width .left,
       all-ranged xs (λ k low h. c .loop-i .inv k low (omega arith)),
+      rebuilt (c .args .width) xs (c .if-xs-width .left),
     )

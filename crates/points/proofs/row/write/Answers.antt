@@ -7,14 +7,17 @@ use denote.Ref.{now}
 use Rattle.std.proofs.shelf.Lists.{take-more, take-more-set, take-all, drop-set-lt, getD-map}
 use Rattle.points.specs.Lists.{IsPoint}
 use Rattle.points.proofs.Rowing.{row-points}
+use Rattle.points.proofs.Shapes.{rebuilt}
 use Rattle.points.proofs.row.write.Needs as need
 
 pub of-requires : need.of-requires
 of-requires g c κs =
     let lists = c .args .lists .now in
     let h : c .loop-i .i < length (map now lists) = simp length-map (c .loop-i-test .taken) in
+    let point =
     subst (IsPoint (g .P·Point .width) (g .P·Point .passes)) (getD-map now lists (c .loop-i .i) _ [] (c .loop-i-test .taken))
-    (row-points (g .P·Point .width) (g .P·Point .passes) 0 (map now lists) (c .pre .checked) (c .loop-i .i) h)
+    (row-points (g .P·Point .width) (g .P·Point .passes) 0 (map now lists) (c .pre .checked) (c .loop-i .i) h) in
+    record { point = point; listed = rebuilt (g .P·Point .width) _ (point .long) }
 
 pub loop-i-again : need.loop-i-again
 loop-i-again g c =

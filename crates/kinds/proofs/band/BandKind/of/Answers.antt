@@ -11,4 +11,4 @@ pub returns : need.returns
 returns c =
     let fx : SFits w32 (c .store .result) = search needs in
     let fy : SFits w32 (c .store-2 .result) = search needs in
-    simp (toZ-ofZ, c .store .ensures, c .store-2 .ensures) (in-order _ _ (from-test _ _ (c .pre .passed)) ∙ rebuilt 2 (c .args .xs .now) (c .pre .long))
+    simp (toZ-ofZ, c .store .ensures, c .store-2 .ensures) (in-order _ _ (from-test _ _ (c .pre .point .passed)) ∙ rebuilt 2 (c .args .xs .now) (c .pre .point .long))

@@ -8,7 +8,7 @@ use lib.IntN.{ℤ, pos, negsuc, negℤ, _*ℤ_, _+ℤ_, natAbs}
 use lib.Signed.{_≤ℤ_}
 use Rattle.std.specs.Numbers.{minZ, maxZ}
 use Rattle.std.proofs.shelf.Signed.{clamps}
-use Rattle.grid.specs.Blend.{Coordinate, Ratio, weighted, nearest, blended, inexact, BlendLaw}
+use Rattle.grid.specs.Blend.{Coordinate, Ratio, weighted, blended, inexact, BlendLaw}
 use Rattle.grid.proofs.Nearest.{near, monotone, least, most, exact, whole, divisible}
 
 -- a product by k of a number of at most m is at most k * m

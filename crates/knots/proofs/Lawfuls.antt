@@ -3,7 +3,7 @@ use Prim.Native.Nat.{ℕ, zero, suc, _+_, _-_, _^_, _≤_, _<_}
 use native.Mathlib.Nat.{add-zero}
 use native.Mathlib.Omega.{arith}
 use mathlib.Core.Path.{_≡_, refl, sym, ap, subst, _∙_}
-use mathlib.Core.Bool.{Bool, true, false, cond, not, _||_}
+use mathlib.Core.Bool.{true, false, cond, not, _||_}
 use mathlib.Core.List.{List, [], _∷_, map}
 use mathlib.Core.Logic.{⊎-elim, _≢_}
 use lib.Dec.{eqb, leb, ltb}
@@ -11,10 +11,8 @@ use lib.IntN.{ℤ, pos, natAbs}
 use lib.ListN.{length, getD}
 use Rattle.std.proofs.shelf.Lists.{length-map, getD-map}
 use Rattle.std.proofs.shelf.Tests.{cases-eq, cases-bool, cond-true, cond-false, and-parts, and-from, not-false, not-from-true, leb-true, le-leb, eqb-true, eqb-false, ltb-false, le-ltb, eq-eqb, ne-eqb, or-left, or-right, or-from, or-parts, or-cases}
-use Rattle.std.specs.declared.option.Option.{Option}
-use Rattle.std.specs.declared.option.Option.the-variants.{Some, None}
+use Rattle.std.specs.declared.option.Option.the-variants.{None}
 use Rattle.grid.proofs.Searches.{none-where, first-none}
-use Rattle.refusals.specs.declared.piece.PieceFault.{PieceFault}
 use Rattle.refusals.specs.declared.piece.PieceFault.the-variants.{Degree, Count, KnotCount, KnotRange, KnotFalls, KnotRepeats}
 use Rattle.refusals.proofs.Orders.{unless-passed, at-passed, unless-passes, at-passes}
 use Rattle.knots.specs.Lawful.{isDegree, isCount, isKnot, times, firstKnot, lastKnot, repeatsWell, firstOutside, firstFall, firstIllRepeated, disorder, pieceRefusal, Lawful, Refuses-the-unlawful}

@@ -1,10 +1,10 @@
 -- De Boor's triangle over lists of coordinates. Throughout, d is the degree, ks the knots, ps the control points, u the
 -- parameter and k the index of its span.
-use Prim.Native.Nat.{ℕ, zero, suc, _+_, _-_, _≤_, _<_, _^_}
+use Prim.Native.Nat.{ℕ, zero, suc, _+_, _-_}
 use mathlib.Core.Bool.{Bool, cond}
 use mathlib.Core.List.{List, []}
 use lib.IntN.{ℤ}
-use lib.ListN.{length, getD}
+use lib.ListN.{getD}
 use Rattle.grid.specs.Search.{anyWhere}
 use Rattle.points.specs.Lists.{blendPoint, inexactPoint}
 

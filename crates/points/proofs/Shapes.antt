@@ -8,22 +8,21 @@ use mathlib.Core.List.{List, [], _∷_, map}
 use lib.Dec.{eqb}
 use lib.IntN.{ℤ, pos}
 use lib.ListN.{length, getD}
-use Rattle.std.specs.Iters.{counting}
 use Rattle.std.specs.declared.option.Option.{Option}
 use Rattle.std.specs.declared.option.Option.the-variants.{Some, None}
 use Rattle.std.proofs.shelf.Counted.{fill-by-all}
 use Rattle.std.proofs.shelf.Lists.{getD-past}
-use Rattle.std.proofs.shelf.Tests.{leb-true, eq-eqb, eqb-true, not-false, cases-lt}
+use Rattle.std.proofs.shelf.Tests.{le-leb, not-from-true, leb-true, eq-eqb, eqb-true, not-false, cases-lt}
 use Rattle.grid.specs.Blend.{Coordinate}
 use Rattle.refusals.specs.Order.{unless, at}
-use Rattle.refusals.proofs.Orders.{some-none, unless-passed, at-passed}
+use Rattle.refusals.proofs.Orders.{some-none, unless-passed, at-passed, unless-passes, at-passes}
 use Rattle.grid.specs.Search.{firstWhere}
 use Rattle.grid.proofs.Searches.{first-none, first-found, none-where, first-within}
 use Rattle.refusals.specs.declared.point.PointFault.{PointFault}
 use Rattle.refusals.specs.declared.point.PointFault.the-variants.{Count, Range, Test}
 use Rattle.refusals.specs.Causes.{pointReport}
 use Rattle.grid.specs.Blend.{isCoordinate}
-use Rattle.points.specs.Lists.{IsPoint, coordinates, misshapen, pointRefusal}
+use Rattle.points.specs.Lists.{IsPoint, coordinates, misshapen, pointRefusal, Refuses-what-is-no-point}
 use Rattle.points.specs.Stored.{clamped}
 use Rattle.points.proofs.Clamping.{clamped-coordinate}
 
@@ -88,8 +87,18 @@ module _ (width : ℕ) (passes : List ℤ → Bool) (xs : List ℤ) where
         passed = passing .0;
       }
 
+  -- and nothing refuses a point
+  unrefused : IsPoint width passes xs → pointRefusal width passes xs ≡ None
+  unrefused p =
+      unless-passes (eqb (length xs) width) Count _ (eq-eqb _ _ (p .long))
+      (at-passes (firstWhere (out xs) 0 (length xs)) Range _ (first-none (out xs) 0 (length xs) (λ k low high. not-from-true _ (le-leb _ _ (p .ranged k))))
+      (unless-passes (passes xs) Test None (p .passed) refl))
+
   -- the place of a fault lies within the list
   pub fault-place : (fault : PointFault) → pointRefusal width passes xs ≡ Some fault → pointReport fault .place ≤ width
   fault-place fault e =
       failed-place (eqb (length xs) width) (firstWhere (out xs) 0 (length xs)) (passes xs) fault width
       (λ i t f. let l = first-within (out xs) 0 (length xs) i f in let n = eqb-true _ _ t in omega arith) e
+
+pub refuses-what-is-no-point : Refuses-what-is-no-point
+refuses-what-is-no-point width passes xs = (accepted width passes xs, unrefused width passes xs)

@@ -1,12 +1,11 @@
 -- Points as lists of coordinates: what makes one, its blend and its flip.
-use Prim.Native.Nat.{ℕ, _^_}
+use Prim.Native.Nat.{ℕ}
 use mathlib.Core.Path.{_≡_}
 use mathlib.Core.Bool.{Bool, true, false, not, cond, _||_}
 use mathlib.Core.List.{List, [], _∷_, map}
-use lib.Dec.{eqb, leb}
-use lib.IntN.{ℤ, pos, negℤ, natAbs}
+use lib.Dec.{eqb}
+use lib.IntN.{ℤ, pos, negℤ}
 use lib.ListN.{length, getD}
-use lib.Signed.{leZ}
 use Rattle.std.specs.Iters.{counting}
 use Rattle.std.specs.declared.option.Option.{Option}
 use Rattle.std.specs.declared.option.Option.the-variants.{None}
@@ -37,6 +36,11 @@ misshapen width xs after =
 -- why a list is no point of a kind: its shape, then the kind's test
 abbrev pub pointRefusal : ℕ → (List ℤ → Bool) → List ℤ → Option PointFault
 pointRefusal width passes xs = misshapen width xs (unless (passes xs) Test None)
+
+-- For every width and test the causes refuse no point, and all else.
+abbrev pub Refuses-what-is-no-point : Type 0
+Refuses-what-is-no-point =
+    (width : ℕ) (passes : List ℤ → Bool) (xs : List ℤ) → (pointRefusal width passes xs ≡ None → IsPoint width passes xs) × (IsPoint width passes xs → pointRefusal width passes xs ≡ None)
 
 -- the blend of two points at a of b, coordinate by coordinate
 abbrev pub blendPoint : ℕ → ℕ → List ℤ → List ℤ → List ℤ

@@ -2,4 +2,5 @@
 
 pub mod point;
 pub mod row;
+pub mod rule;
 pub mod stored;

@@ -6,4 +6,4 @@ mod other_kinds;
 #[cfg(test)]
 mod readings;
 #[cfg(test)]
-mod refusals;
+mod refused;

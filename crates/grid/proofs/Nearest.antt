@@ -1,5 +1,5 @@
 -- The nearest whole number. Its definition is opened in one place, `sharp`; the rule for ties stands in `Rounds`, which `near`,
--- `monotone` and `by-one-division` (how the code comes by it) are proved from. Every other law comes from those.
+-- `monotone` and `by-floor-and-rest` (how the code comes by it) are proved from. Every other law comes from those.
 use Prim.Native.Nat.{ℕ, suc, _+_, _-_, _*_, _/_, _≤_, _<_}
 use native.Mathlib.Nat.{mul-le-mul-left, mul-add, mul-assoc, mul-comm, div-add-mod, mod-lt, mul-suc, mul-zero, mul-one, mul-mod-right, zero-mod}
 use native.Mathlib.Omega.{arith}
@@ -93,9 +93,9 @@ remainder-natural : (z d : ℤ) → remEuclid z d ≡ pos (natAbs (remEuclid z d
 remainder-natural (pos a) d = refl
 remainder-natural (negsuc a) d = refl
 
--- so one division gives it
-pub by-one-division : (z : ℤ) (b : ℕ) → 1 ≤ b → nearest z b ≡ divEuclid z (pos b) +ℤ pos (boolByte (leZ (pos b) (remEuclid z (pos b) *ℤ pos 2)))
-by-one-division z b h =
+-- so floor and rest give it
+pub by-floor-and-rest : (z : ℤ) (b : ℕ) → 1 ≤ b → nearest z b ≡ divEuclid z (pos b) +ℤ pos (boolByte (leZ (pos b) (remEuclid z (pos b) *ℤ pos 2)))
+by-floor-and-rest z b h =
     let r = remEuclid z (pos b) in
     let n = remainder-natural z (pos b) in
     ⊎-elim

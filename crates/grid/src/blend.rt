@@ -13,7 +13,7 @@ fn scaled(k: u32, p: i32) -> i64
     i64::from(k) * i64::from(p)
 }
 
-// The whole number nearest to z / b, and whether z / b is not whole: one division gives both.
+// The whole number nearest to z / b, and whether z / b is not whole.
 fn rounded(z: i64, b: u32) -> (i64, bool)
     requires size { ⌜ natAbs z ≤ 2 ^ 60 ⌝ }
     requires some { ⌜ 1 ≤ b ⌝ }

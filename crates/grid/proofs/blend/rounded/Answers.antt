@@ -9,7 +9,7 @@ use mir.Val.{SFits, ofZ, boolByte}
 use Rattle.std.proofs.shelf.Signed.{toZ-ofZ}
 use Rattle.std.specs.Numbers.{divEuclid, remEuclid}
 use Rattle.grid.specs.Blend.{fractional}
-use Rattle.grid.proofs.Nearest.{by-one-division, rest-bits}
+use Rattle.grid.proofs.Nearest.{by-floor-and-rest, rest-bits}
 use Rattle.grid.proofs.blend.rounded.Needs as need
 
 pub returns : need.returns
@@ -32,6 +32,6 @@ returns c =
     let eu : up ≡ pos (boolByte (leZ (pos b) (remEuclid z (pos b) *ℤ pos 2))) =
     (simp toZ-ofZ at (c .from .ensures)) ∙ ap (λ y. pos (boolByte (leZ y (r *ℤ pos 2)))) (c .from-b .ensures) ∙ ap (λ y. pos (boolByte (leZ (pos b) (y *ℤ pos 2)))) er in
     record {
-      value = simp toZ-ofZ (ap (λ y. y +ℤ up) eq ∙ ap (λ y. divEuclid z (pos b) +ℤ y) eu ∙ sym (by-one-division z b (c .pre .some)));
+      value = simp toZ-ofZ (ap (λ y. y +ℤ up) eq ∙ ap (λ y. divEuclid z (pos b) +ℤ y) eu ∙ sym (by-floor-and-rest z b (c .pre .some)));
       inexact = ap (λ n. not (eqb (ofZ w64 n) 0)) er ∙ ap (λ n. not (eqb n 0)) (rest-bits z (pos b));
     }

@@ -1,6 +1,8 @@
 //! A cutting list: sections are laid on lent memory and read at whole parameters of their
 //! domains, and what is refused is shown with its cause.
 
+#![tactic(auto)]
+
 mod drawings;
 mod listing;
 

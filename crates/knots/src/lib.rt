@@ -1,5 +1,7 @@
 //! Lawful knot lists: what makes one, the causes that refuse the others, and the span of a parameter.
 
+#![tactic(auto)]
+
 pub mod judge;
 pub mod list;
 pub mod rule;

@@ -1,5 +1,7 @@
 //! The exact spline and what is true of it, for any control points: each function here carries a theorem and does nothing.
 
+#![tactic(auto)]
+
 ghost use Rattle.splines.specs.Theorems.{OnlyItsOwnKnotsAndPointsCount, SplineIsLinearInItsPoints, DomainIsMadeOfSpans};
 ghost use Rattle.splines.specs.Theorems.{TriangleGivesTheSpline, FullKnotGivesItsPoint};
 ghost use Rattle.splines.specs.Theorems.{InsertionKeepsTheCurve, SplittingKeepsTheCurve, RaisingKeepsTheCurve};

@@ -1,6 +1,6 @@
 -- The nearest whole number. Its definition is opened in one place, `sharp`; the rule for ties stands in `Rounds`, which `near`,
 -- `monotone` and `by_floor_and_rest` (how the code comes by it) are proved from. Every other law comes from those.
-use Rattle.std.proofs.Common.{◌≡◌, ℕ, suc, ◌+◌, ◌-◌, ◌*◌, ◌/◌, ◌<◌, ◌≤◌, true, false, not, eqb, ℤ, pos, negsuc, ◌+ℤ◌, ◌-ℤ◌, ◌*ℤ◌, nat_abs, ◌≤ℤ◌, sym, refl, ap, ◌∙◌, ⊎_elim, mod-lt, mul_assoc, mul_comm, mul-le-mul_left, mul_zero, mul_one, mul-suc, mul-add, arith, w64, of_z, tests}
+use Rattle.std.proofs.Common.{◌≡◌, ℕ, suc, ◌+◌, ◌*◌, ◌/◌, ◌<◌, ◌≤◌, true, false, not, eqb, ℤ, pos, negsuc, ◌+ℤ◌, ◌-ℤ◌, ◌*ℤ◌, nat_abs, ◌≤ℤ◌, sym, refl, ap, ◌∙◌, ⊎_elim, mod-lt, mul_assoc, mul_comm, mul-le-mul_left, mul-zero, mul-one, mul-suc, mul-add, arith, w64, of_z, tests}
 use native.Mathlib.Nat.{div-add-mod, mul-mod_right, zero-mod}
 use borrow.Author.Differences.{ints, product_is, sum_is_lem, up, down}
 use lib.Signed.{le_z}
@@ -15,13 +15,13 @@ abbrev Floor : ℤ → ℕ → ℤ → Type 0
 Floor z d m = (d * up m + down z ≤ up z + d * down m) × (up z + d * down m < d * up m + down z + d)
 
 floor_is : (z : ℤ) (d : ℕ) → 1 ≤ d → Floor z d (int_div_euclid z (pos d))
-floor_is (pos a) d h = omega (arith, div-add-mod a d, mod-lt a h, mul_zero d)
-floor_is (negsuc a) d h = omega (arith, div-add-mod a d, mod-lt a h, mul_zero d, mul-suc d (a / d))
+floor_is (pos a) d h = omega (arith, div-add-mod a d, mod-lt a h, mul-zero d)
+floor_is (negsuc a) d h = omega (arith, div-add-mod a d, mod-lt a h, mul-zero d, mul-suc d (a / d))
 
 -- z is the divisor times the floor, plus the rest
 rest_is : (z : ℤ) (d : ℕ) → 1 ≤ d → up z + d * down (int_div_euclid z (pos d)) ≡ d * up (int_div_euclid z (pos d)) + down z + nat_abs (int_rem_euclid z (pos d))
-rest_is (pos a) d h = omega (arith, div-add-mod a d, mod-lt a h, mul_zero d)
-rest_is (negsuc a) d h = omega (arith, div-add-mod a d, mod-lt a h, mul_zero d, mul-suc d (a / d))
+rest_is (pos a) d h = omega (arith, div-add-mod a d, mod-lt a h, mul-zero d)
+rest_is (negsuc a) d h = omega (arith, div-add-mod a d, mod-lt a h, mul-zero d, mul-suc d (a / d))
 
 twice : (b n : ℕ) → (b * 2) * n ≡ 2 * (b * n)
 twice b n = ap (λ k. k * n) (mul_comm b 2) ∙ mul_assoc 2 b n
@@ -48,7 +48,7 @@ below : (b : ℕ) (m n : ℤ) → b * up n + b * down m < b * up m + b * down n 
 below b m n h =
     by_lt_z m n (λ lt.
     let k : up m + down n + 1 ≤ up n + down m = omega (arith, ints) in
-    absurd (omega (arith, mul-le-mul_left b k, mul-add b (up m + down n) 1, mul-add b (up m) (down n), mul-add b (up n) (down m), mul_one b)))
+    absurd (omega (arith, mul-le-mul_left b k, mul-add b (up m + down n) 1, mul-add b (up m) (down n), mul-add b (up n) (down m), mul-one b)))
     (λ le. le)
 
 -- Law: it never falls.
@@ -71,7 +71,7 @@ rounds_up z b h half =
     let e = rest_is z b h in
     let one : up m + down q ≡ up q + down m + 1 = omega (arith, ints, sum_is_lem q (pos 1)) in
     let scaled : b * up m + b * down q ≡ b * up q + b * down m + b =
-    sym (mul-add b (up m) (down q)) ∙ ap (λ n. b * n) one ∙ mul-add b (up q + down m) 1 ∙ ap (λ n. n + b * 1) (mul-add b (up q) (down m)) ∙ ap (λ n. b * up q + b * down m + n) (mul_one b) in
+    sym (mul-add b (up m) (down q)) ∙ ap (λ n. b * n) one ∙ mul-add b (up q + down m) 1 ∙ ap (λ n. n + b * 1) (mul-add b (up q) (down m)) ∙ ap (λ n. b * up q + b * down m + n) (mul-one b) in
     rounds_to z m b h (omega (arith, f, e, scaled, half), omega (arith, f, e, scaled, half))
 
 rounds_down : (z : ℤ) (b : ℕ) → 1 ≤ b → 2 * nat_abs (int_rem_euclid z (pos b)) < b → nearest z b ≡ int_div_euclid z (pos b)

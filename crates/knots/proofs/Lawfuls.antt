@@ -1,5 +1,5 @@
 -- What a lawful degree, count and knot list is known by.
-use Rattle.std.proofs.Common.{◌≡◌, ℕ, zero, suc, ◌+◌, ◌-◌, ◌^◌, ◌<◌, ◌≤◌, true, false, cond, not, ◌||◌, eqb, ltb, leb, ◌≢◌, List, [], ◌∷◌, map, length, get_or, ℤ, pos, nat_abs, None, sym, refl, ap, ◌∙◌, subst, ⊎_elim, add_zero, arith}
+use Rattle.std.proofs.Common.{◌≡◌, ℕ, zero, suc, ◌+◌, ◌-◌, ◌^◌, ◌<◌, ◌≤◌, true, false, cond, not, ◌||◌, eqb, ltb, leb, ◌≢◌, List, [], ◌∷◌, map, length, get_or, ℤ, pos, nat_abs, None, sym, refl, ap, ◌∙◌, subst, ⊎_elim, add-zero, arith}
 use Rattle.std.proofs.lemmas.List.{length-map, get_or-map}
 use Rattle.std.proofs.lemmas.Bool.{cases_eq, cases_lt, cases_Bool, cond-true, cond-false, and_parts, and_from, not-false, not_from_true, leb-true, le-leb, eqb-true, eqb-false, ltb-false, le-ltb, eq-eqb, ne_eqb, or_left, or_right, or_from, or_parts, or_cases}
 use Rattle.grid.proofs.Searches.{none_where, first_none}
@@ -92,7 +92,7 @@ module _ (d count : ℕ) (ks : List ℕ) (unrefused : piece_refusal (pos d) coun
 
   -- from an index to one n further on, step by step
   rises_by : (n i : ℕ) → i + n < length ks → get_or ks i 0 ≤ get_or ks (i + n) 0
-  rises_by zero i h = simp add_zero (omega arith)
+  rises_by zero i h = simp add-zero (omega arith)
   rises_by (suc n) i h =
       let r = rises_by n i (omega arith) in
       let e = none_where (λ i. ltb (get_or ks i 0) (get_or ks (i - 1) 0)) 1 (length ks - 1) (i + suc n) none_falls (omega arith) (omega arith) in

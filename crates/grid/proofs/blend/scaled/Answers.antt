@@ -1,4 +1,4 @@
-use Rattle.std.proofs.Common.{◌≡◌, ◌*◌, ◌^◌, ◌≤◌, ℤ, pos, ◌*ℤ◌, nat_abs, sym, ap, ◌∙◌, subst, arith, w64, SFits, rules}
+use Rattle.std.proofs.Common.{◌≡◌, ◌*◌, ◌^◌, ◌≤◌, pos, ◌*ℤ◌, nat_abs, sym, ap, ◌∙◌, subst, arith, w64, SFits, rules}
 use borrow.Author.Differences.{ints}
 use Rattle.std.proofs.lemmas.Int.{to_z-of_z}
 use Rattle.grid.proofs.Blends.{product_bound}
@@ -16,8 +16,8 @@ bound c =
 fits : (c : goal.After-from-2) → SFits w64 (c.from.result *ℤ c.from-2.result)
 fits c = omega (arith, ints, bound c)
 
-pub overflow-mul-result : goal.overflow-mul-result
-overflow-mul-result c =
+pub overflow_mul-result : goal.overflow_mul-result
+overflow_mul-result c =
     let fk : SFits w64 c.from.result = search rules in
     let fp : SFits w64 c.from-2.result = search rules in
     simp to_z-of_z (fits c)

@@ -10,8 +10,8 @@ use Rattle.pieces.proofs.Rows.{told_widths}
 use Rattle.pieces.proofs.Windows.{within, around, governed, knots_size, points_size, part_length}
 use Rattle.pieces.proofs.reading.read_span.Goals as goal
 
-pub slice-bounds-triangle-end-2 : goal.slice-bounds-triangle-end-2
-slice-bounds-triangle-end-2 g c =
+pub slice_bounds-triangle-end-2 : goal.slice_bounds-triangle-end-2
+slice_bounds-triangle-end-2 g c =
     let w = within c.args.degree (length c.args.points.now) c.args.knots.now c.args.u c.args.k c.requires.lawful c.requires.span in
     search rules
 

@@ -5,8 +5,8 @@ use Rattle.pieces.proofs.Rows.{told_at}
 use Rattle.pieces.proofs.Triangles.{Stands, stands_more, rounds_more, at_most_one}
 use Rattle.pieces.proofs.triangle.rounds.Goals as goal
 
-pub overflow-add-count : goal.overflow-add-count
-overflow-add-count g c = let one = at_most_one c.round-inexact.result in omega arith
+pub overflow_add-count : goal.overflow_add-count
+overflow_add-count g c = let one = at_most_one c.round-inexact.result in omega arith
 
 pub loop-r-init : goal.loop-r-init
 loop-r-init g c = (omega arith, (λ j low high. refl), refl)

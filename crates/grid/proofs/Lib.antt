@@ -1,3 +1,4 @@
 pub mod Nearest
 pub mod Blends
 pub mod Searches
+pub mod Orders

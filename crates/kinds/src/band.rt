@@ -1,13 +1,13 @@
-ghost use Rattle.std.specs.Prelude.{◌≡◌, [], ◌∷◌, refl};
+ghost use Rattle.std.specs.Prelude.{◌≡◌, [], ◌∷◌, refl, pos, neg_ℤ, slice_index_or};
 ghost use Rattle.std.specs.Int.{int_min, int_max};
 ghost use Rattle.points.specs.Lists.{negated};
 ghost use Rattle.points.specs.Stored.{clamped};
 ghost use Rattle.kinds.specs.Bands.{rising};
-ghost use Rattle.kinds.specs.BandsLemmas.{rises, rising_blend};
+ghost use Rattle.kinds.specs.BandsLemmas.{rises, rising_blend, rising_flip};
 ghost use Rattle.points.proofs.Clamping.{clamped_coordinate, coordinate_least, coordinate_greatest};
-ghost use Rattle.points.proofs.Shapes.{ranged_none, ranged_more, rebuilt};
+ghost use Rattle.points.proofs.Shapes.{narrow_by, ranged_none, ranged_more, rebuilt};
 ghost use Rattle.std.proofs.Math.IntN.{neg_ℤ-neg_ℤ};
-ghost use Rattle.std.proofs.Common.{rules};
+ghost use Rattle.std.proofs.Common.{ap, ◌∙◌};
 
 use points::point::Point;
 use points::stored::{mix, opposite, store, tell};
@@ -49,7 +49,7 @@ impl Point for Band {
 
     ghost turns = { negated 1 ∷ (negated 0 ∷ []) };
 
-    ghost narrow = { Prim.search rules };
+    ghost narrow = { narrow_by 2 refl };
 
     ghost points = { λ p.
         let l = clamped p.low in
@@ -58,11 +58,14 @@ impl Point for Band {
         let high = coordinate_greatest l h (clamped_coordinate p.low) (clamped_coordinate p.high) in
         record { long = refl; ranged = ranged_more (int_min l h) (int_max l h ∷ []) low (ranged_more (int_max l h) [] high ranged_none); passed = rises l h } };
 
-    ghost blends = { λ a b xs ys r p q. rising_blend a b xs ys r p q };
+    ghost blends = { rising_blend };
 
-    ghost flips = { Prim.search rules };
+    ghost flips = { rising_flip };
 
-    ghost restores = { λ xs p. simp neg_ℤ-neg_ℤ (rebuilt 2 xs p.long) };
+    ghost restores = { λ xs p.
+        let x = slice_index_or xs 0 (pos 0) in
+        let y = slice_index_or xs 1 (pos 0) in
+        ap (λ v. v ∷ (neg_ℤ (neg_ℤ y) ∷ [])) (neg_ℤ-neg_ℤ x) ∙ ap (λ v. x ∷ (v ∷ [])) (neg_ℤ-neg_ℤ y) ∙ rebuilt 2 xs p.long };
 
     fn wide() -> usize {
         Self::WIDTH

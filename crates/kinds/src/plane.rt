@@ -1,9 +1,9 @@
-ghost use Rattle.std.specs.Prelude.{[], ◌∷◌, refl};
+ghost use Rattle.std.specs.Prelude.{[], ◌∷◌, refl, pos, slice_index_or};
 ghost use Rattle.points.specs.Lists.{unconditional, kept, negated};
 ghost use Rattle.points.specs.Stored.{clamped};
-ghost use Rattle.points.proofs.Shapes.{clamped_ranged, rebuilt};
+ghost use Rattle.points.proofs.Shapes.{clamped_ranged, narrow_by, rebuilt};
 ghost use Rattle.std.proofs.Math.IntN.{neg_ℤ-neg_ℤ};
-ghost use Rattle.std.proofs.Common.{rules};
+ghost use Rattle.std.proofs.Common.{ap, ◌∙◌};
 
 use points::point::Point;
 use points::stored::{mix, opposite, store, tell};
@@ -26,15 +26,15 @@ impl Point for PlanePoint {
 
     ghost turns = { negated 0 ∷ (kept 1 ∷ []) };
 
-    ghost narrow = { Prim.search rules };
+    ghost narrow = { narrow_by 2 refl };
 
     ghost points = { λ p. record { long = refl; ranged = clamped_ranged (p.x ∷ (p.y ∷ [])); passed = refl } };
 
-    ghost blends = { Prim.search rules };
+    ghost blends = { λ a b xs ys r p q. refl };
 
-    ghost flips = { Prim.search rules };
+    ghost flips = { λ xs p. refl };
 
-    ghost restores = { λ xs p. simp neg_ℤ-neg_ℤ (rebuilt 2 xs p.long) };
+    ghost restores = { λ xs p. ap (λ x. x ∷ (slice_index_or xs 1 (pos 0) ∷ [])) (neg_ℤ-neg_ℤ (slice_index_or xs 0 (pos 0))) ∙ rebuilt 2 xs p.long };
 
     fn wide() -> usize {
         Self::WIDTH

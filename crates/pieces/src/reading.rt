@@ -15,8 +15,8 @@ use refusals::piece::PieceFault;
 fn read_span<P: Point>(degree: usize, knots: &[u32], points: &[P], u: u32, k: usize) -> (P, usize)
     requires lawful { Lawful degree (length points.now) knots.now }
     requires span { Span degree (length points.now) knots.now u k }
-    ensures value { (told result.0, result.1) ≡ de_boor degree knots.now (map told points.now) u k }
-    ensures keeps { KeepsToCurve degree knots.now (map told points.now) (pos u) (told result.0) result.1 }
+    ensures value { (P.told result.0, result.1) ≡ de_boor degree knots.now (map P.told points.now) u k }
+    ensures keeps { KeepsToCurve degree knots.now (map P.told points.now) (pos u) (P.told result.0) result.1 }
 {
     let first = k - degree;
     triangle(
@@ -37,10 +37,10 @@ pub fn read<P: Point>(
 ) -> Result<(P, usize), PieceFault>
     requires { Lawful degree (length points.now) knots.now }
     ensures value { MatchResult result
-        (λ v. reading degree knots.now (map told points.now) u ≡ Some (told v.0, v.1))
-        (λ e. (reading degree knots.now (map told points.now) u ≡ None) × (e ≡ OffDomain)) }
+        (λ v. reading degree knots.now (map P.told points.now) u ≡ Some (P.told v.0, v.1))
+        (λ e. (reading degree knots.now (map P.told points.now) u ≡ None) × (e ≡ OffDomain)) }
     ensures keeps { MatchResult result
-        (λ v. KeepsToCurve degree knots.now (map told points.now) u (told v.0) v.1)
+        (λ v. KeepsToCurve degree knots.now (map P.told points.now) u (P.told v.0) v.1)
         (λ _. Unit {0}) }
 {
     let k = span(degree, points.len(), knots, u)?;

@@ -17,14 +17,14 @@ pub fn lay<P: Point>(
 ) -> Result<KnotList, SectionFault>
     requires { 64 ≤ length memory.old }
     ensures refusal { MatchResult result
-        (λ l. (section_refusal width passes degree (length points.now) knots.now (map (λ x. x.now) points.now) ≡ None)
+        (λ l. (section_refusal P.width P.passes degree (length points.now) knots.now (map (λ x. x.now) points.now) ≡ None)
         × Stores degree (length points.now) knots.now l)
-        (λ e. section_refusal width passes degree (length points.now) knots.now (map (λ x. x.now) points.now) ≡ Some e) }
+        (λ e. section_refusal P.width P.passes degree (length points.now) knots.now (map (λ x. x.now) points.now) ≡ Some e) }
     ensures lawful { MatchResult result
         (λ l. Lawful l.degree l.count (take (l.count + l.degree + 1) l.knots) × (l.count + l.degree + 1 ≤ 70))
         (λ _. Unit {0}) }
     ensures memory { MatchResult result
-        (λ _. (map told (take (length points.now) memory.new) ≡ map (λ x. x.now) points.now)
+        (λ _. (map P.told (take (length points.now) memory.new) ≡ map (λ x. x.now) points.now)
         × (drop (length points.now) memory.new ≡ drop (length points.now) memory.old))
         (λ _. memory.new ≡ memory.old) }
 {

@@ -15,8 +15,8 @@ fn blend_into<P: Point>(room: &mut [P], j: usize, a: u32, b: u32) -> bool
     requires first { 1 ≤ j }
     requires within { j < length room.old }
     requires ratio { Ratio a b }
-    ensures room { map told room.new ≡ slice_set (map told room.old) j (blend_point a b (slice_index_or (map told room.old) (j - 1) []) (slice_index_or (map told room.old) j [])) }
-    ensures inexact { result ≡ inexact_point a b (slice_index_or (map told room.old) (j - 1) []) (slice_index_or (map told room.old) j []) }
+    ensures room { map P.told room.new ≡ slice_set (map P.told room.old) j (blend_point a b (slice_index_or (map P.told room.old) (j - 1) []) (slice_index_or (map P.told room.old) j [])) }
+    ensures inexact { result ≡ inexact_point a b (slice_index_or (map P.told room.old) (j - 1) []) (slice_index_or (map P.told room.old) j []) }
 {
     let (mean, inexact) = room[j - 1].blend(&room[j], a, b);
     room[j] = mean;
@@ -39,8 +39,8 @@ fn round<P: Point>(room: &mut [P], knots: &[u32], degree: usize, u: u32, r: usiz
     requires around { Around degree knots.now u }
     requires room { length room.old ≡ degree + 1 }
     requires round { (1 ≤ r) × (r ≤ degree) }
-    ensures entries { (j : ℕ) → r ≤ j → j ≤ degree → slice_index_or (map told room.new) j [] ≡ between degree knots.now u r j (slice_index_or (map told room.old) (j - 1) []) (slice_index_or (map told room.old) j []) }
-    ensures inexact { result ≡ any_where (λ j. inexact_between degree knots.now u r j (slice_index_or (map told room.old) (j - 1) []) (slice_index_or (map told room.old) j [])) r (degree + 1 - r) }
+    ensures entries { (j : ℕ) → r ≤ j → j ≤ degree → slice_index_or (map P.told room.new) j [] ≡ between degree knots.now u r j (slice_index_or (map P.told room.old) (j - 1) []) (slice_index_or (map P.told room.old) j []) }
+    ensures inexact { result ≡ any_where (λ j. inexact_between degree knots.now u r j (slice_index_or (map P.told room.old) (j - 1) []) (slice_index_or (map P.told room.old) j [])) r (degree + 1 - r) }
 {
     let mut inexact = false;
     for j in (r..degree + 1).rev() {
@@ -55,7 +55,7 @@ fn round<P: Point>(room: &mut [P], knots: &[u32], degree: usize, u: u32, r: usiz
 fn rounds<P: Point>(room: &mut [P], knots: &[u32], degree: usize, u: u32) -> (P, usize)
     requires around { Around degree knots.now u }
     requires room { length room.old ≡ degree + 1 }
-    ensures { (told result.0, result.1) ≡ de_boor degree knots.now (map told room.old) u degree }
+    ensures { (P.told result.0, result.1) ≡ de_boor degree knots.now (map P.told room.old) u degree }
 {
     let mut count = 0;
     for r in 1..degree + 1 {
@@ -70,7 +70,7 @@ fn fill<P: Point>(room: &mut [P], polygon: &[P], knots: &[u32], degree: usize, u
     requires around { Around degree knots.now u }
     requires polygon { length polygon.now ≡ degree + 1 }
     requires room { length room.old ≡ degree + 1 }
-    ensures { (told result.0, result.1) ≡ de_boor degree knots.now (map told polygon.now) u degree }
+    ensures { (P.told result.0, result.1) ≡ de_boor degree knots.now (map P.told polygon.now) u degree }
 {
     room.copy_from_slice(polygon);
     rounds(room, knots, degree, u)
@@ -86,7 +86,7 @@ fn in_room<P: Point, const ROOM: usize>(
     requires around { Around degree knots.now u }
     requires polygon { length polygon.now ≡ degree + 1 }
     requires room { ROOM ≡ degree + 1 }
-    ensures { (told result.0, result.1) ≡ de_boor degree knots.now (map told polygon.now) u degree }
+    ensures { (P.told result.0, result.1) ≡ de_boor degree knots.now (map P.told polygon.now) u degree }
 {
     let mut room = [polygon[0]; ROOM];
     fill(&mut room, polygon, knots, degree, u)
@@ -97,7 +97,7 @@ fn in_room<P: Point, const ROOM: usize>(
 pub(crate) fn triangle<P: Point>(polygon: &[P], knots: &[u32], degree: usize, u: u32) -> (P, usize)
     requires around { Around degree knots.now u }
     requires polygon { length polygon.now ≡ degree + 1 }
-    ensures { (told result.0, result.1) ≡ de_boor degree knots.now (map told polygon.now) u degree }
+    ensures { (P.told result.0, result.1) ≡ de_boor degree knots.now (map P.told polygon.now) u degree }
 {
     match degree {
         1 => in_room::<P, 2>(polygon, knots, degree, u),

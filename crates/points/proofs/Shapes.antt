@@ -1,8 +1,8 @@
 -- Lists of coordinates: their shape, and how a kind's few numbers make one.
-use Rattle.std.proofs.Common.{◌≡◌, ℕ, zero, suc, ◌<◌, ◌≤◌, Bool, true, false, not, eqb, List, [], ◌∷◌, map, length, get_or, ℤ, pos, Some, None, Option, sym, refl, ap, ◌∙◌, subst, ⊎_elim, arith}
+use Rattle.std.proofs.Common.{◌≡◌, ℕ, zero, suc, ◌<◌, ◌≤◌, Bool, true, false, not, ◌&&◌, eqb, leb, List, [], ◌∷◌, map, length, get_or, ℤ, pos, Some, None, Option, sym, refl, ap, ◌∙◌, subst, ⊎_elim, arith}
 use Rattle.std.proofs.lemmas.List.FromFn.{fill_by_all}
 use Rattle.std.proofs.lemmas.List.{get_or_past}
-use Rattle.std.proofs.lemmas.Bool.{le-leb, not_from_true, leb-true, eq-eqb, eqb-true, not-false, cases_lt}
+use Rattle.std.proofs.lemmas.Bool.{and_parts, le-leb, not_from_true, leb-true, eq-eqb, eqb-true, not-false, cases_lt}
 use Rattle.grid.specs.Blend.{Coordinate}
 use Rattle.refusals.specs.Order.{unless, at}
 use Rattle.refusals.proofs.Orders.{some_none, unless_passed, at_passed, unless_passes, at_passes}
@@ -92,3 +92,7 @@ module _ (width : ℕ) (passes : List ℤ → Bool) (xs : List ℤ) where
 
 pub refuses_what_is_no_point : RefusesWhatIsNoPoint
 refuses_what_is_no_point width passes xs = (accepted width passes xs, unrefused width passes xs)
+
+-- a width that the test lets through is 1 to 4
+pub narrow_by : (width : ℕ) → (leb 1 width && leb width 4) ≡ true → (1 ≤ width) × (width ≤ 4)
+narrow_by width e = let parts = and_parts (leb 1 width) (leb width 4) e in (leb-true _ _ parts.0, leb-true _ _ parts.1)

@@ -22,8 +22,8 @@ fn placed(fault: PointFault, before: usize) -> PointFault
 pub fn check_row<P: Point>(lists: &[&[i64]]) -> Result<(), PointFault>
     requires { length lists.now ≤ 64 }
     ensures { MatchResult result
-        (λ _. row_refusal width passes 0 (map (λ x. x.now) lists.now) ≡ None)
-        (λ e. row_refusal width passes 0 (map (λ x. x.now) lists.now) ≡ Some e) }
+        (λ _. row_refusal P.width P.passes 0 (map (λ x. x.now) lists.now) ≡ None)
+        (λ e. row_refusal P.width P.passes 0 (map (λ x. x.now) lists.now) ≡ Some e) }
 {
     let mut before = 0;
     for xs in lists {
@@ -37,9 +37,9 @@ pub fn check_row<P: Point>(lists: &[&[i64]]) -> Result<(), PointFault>
 
 // Makes and writes the points of lists, one after another.
 fn write<P: Point>(lists: &[&[i64]], row: &mut [P])
-    requires checked { row_refusal width passes 0 (map (λ x. x.now) lists.now) ≡ None }
+    requires checked { row_refusal P.width P.passes 0 (map (λ x. x.now) lists.now) ≡ None }
     requires long { length lists.now ≤ length row.old }
-    ensures made { map told (take (length lists.now) row.new) ≡ map (λ x. x.now) lists.now }
+    ensures made { map P.told (take (length lists.now) row.new) ≡ map (λ x. x.now) lists.now }
     ensures rest { drop (length lists.now) row.new ≡ drop (length lists.now) row.old }
 {
     for (i, xs) in lists.iter().enumerate() {
@@ -49,9 +49,9 @@ fn write<P: Point>(lists: &[&[i64]], row: &mut [P])
 
 // Fills a row from its start with the points of lists that were checked; the rest of it stays.
 pub fn fill_row<P: Point>(lists: &[&[i64]], row: &mut [P])
-    requires checked { row_refusal width passes 0 (map (λ x. x.now) lists.now) ≡ None }
+    requires checked { row_refusal P.width P.passes 0 (map (λ x. x.now) lists.now) ≡ None }
     requires long { length lists.now ≤ length row.old }
-    ensures made { map told (take (length lists.now) row.new) ≡ map (λ x. x.now) lists.now }
+    ensures made { map P.told (take (length lists.now) row.new) ≡ map (λ x. x.now) lists.now }
     ensures rest { drop (length lists.now) row.new ≡ drop (length lists.now) row.old }
 {
     write(lists, row);

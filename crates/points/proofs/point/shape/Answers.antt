@@ -9,15 +9,15 @@ loop-i-preserved c =
     let xs = c.args.xs.now in
     let i = c.loop-i.i in
     let f : SFits w64 (get_or xs i (pos 0)) = search rules in
-    let here : out xs i ≡ false = ap not (sym (simp to_z-of_z at c.if-not-in-range.ensures)) in
+    let here : out xs i ≡ false = ap not (sym (simp to_z-of_z at c.if-not-in_range.ensures)) in
     λ k low h. ⊎_elim (λ (e : k ≡ i). ap (out xs) e ∙ here) (λ ne. c.loop-i.invariant k low (omega arith)) (cases_eq k i)
 
-pub returns-then-not-in-range : goal.returns-then-not-in-range
-returns-then-not-in-range c =
+pub returns-then-not-in_range : goal.returns-then-not-in_range
+returns-then-not-in_range c =
     let xs = c.args.xs.now in
     let i = c.loop-i.i in
     let f : SFits w64 (get_or xs i (pos 0)) = search rules in
-    let here : out xs i ≡ true = ap not (sym (simp to_z-of_z at c.if-not-in-range.ensures)) in
+    let here : out xs i ≡ true = ap not (sym (simp to_z-of_z at c.if-not-in_range.ensures)) in
     out_at xs c.args.width c.if-xs-width.false None i c.loop-i-test.true c.loop-i.invariant here
 
 pub returns : goal.returns

@@ -3,7 +3,7 @@ use Rattle.std.specs.Int.{int_min, int_max}
 use Rattle.std.proofs.lemmas.Int.{to_z-of_z}
 use Rattle.grid.specs.Blend.{blended}
 use Rattle.points.specs.Stored.{clamped}
-use Rattle.kinds.specs.BandsLemmas.{in_order, blend_in_order}
+use Rattle.kinds.proofs.Bands.{in_order, blend_in_order}
 use Rattle.kinds.proofs.band.BandPoint.blend.Goals as goal
 
 pub returns : goal.returns

@@ -1,6 +1,7 @@
 use Rattle.std.proofs.Common.{◌∙◌, w32, SFits, rules}
 use Rattle.std.proofs.lemmas.Int.{to_z-of_z}
-use Rattle.kinds.specs.BandsLemmas.{in_order, from_test}
+use Rattle.grid.proofs.Orders.{from_test}
+use Rattle.kinds.proofs.Bands.{in_order}
 use Rattle.points.proofs.Shapes.{rebuilt}
 use Rattle.kinds.proofs.band.BandPoint.of.Goals as goal
 

@@ -6,7 +6,6 @@ use native.Mathlib.Bridge.{le_prop}
 use mathlib.Core.Path.{◌≡◌, refl, sym, ◌∙◌, ap, subst}
 use mathlib.Core.HLevel.{Π_prop, hedberg}
 use mathlib.Core.List.{[], ◌∷◌}
-use mathlib.Core.Quot
 use mathlib.Core.Quot.{Quot, sound, Quot-set, lift, ind}
 use lib.IntN.{ℤ, pos, negsuc, neg_ℤ, ◌*ℤ◌, zero-*ℤ}
 use Rattle.fractions.proofs.Rings.{CommutativeRing, OrderedField}

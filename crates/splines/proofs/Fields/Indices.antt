@@ -1,5 +1,5 @@
 -- Splines, triangles and insertions by index.
-use Rattle.std.proofs.Common.{◌≡◌, ℕ, zero, suc, ◌+◌, ◌<◌, ◌≤◌, [], ◌∷◌, sym, refl, ap, ◌∙◌, ap₂, suc-add, zero_add, arith}
+use Rattle.std.proofs.Common.{◌≡◌, ℕ, zero, suc, ◌+◌, ◌<◌, ◌≤◌, [], ◌∷◌, sym, refl, ap, ◌∙◌, ap₂, suc-add, zero-add, arith}
 use mathlib.Core.Path.{fun_ext}
 use Rattle.fractions.proofs.Rings.{OrderedField, ring_of}
 use Rattle.fractions.proofs.Solver.{ν, k0, ◌∔◌, ring}
@@ -25,7 +25,7 @@ module _ (K : OrderedField) where
   series_is x zero d u P = unfold sum in refl
   series_is x (suc n) d u P =
       sum_front n (λ i. Basis K x d (λ m. u (i + m)) ⊗ P i)
-      ∙ ap₂ (λ y z. y ⊗ P 0 ⊕ z) (ap (Basis K x d) (fun_ext (λ m. ap u (zero_add m))))
+      ∙ ap₂ (λ y z. y ⊗ P 0 ⊕ z) (ap (Basis K x d) (fun_ext (λ m. ap u (zero-add m))))
       (ap (sum K n) (fun_ext (λ i. ap (λ y. y ⊗ P (suc i)) (ap (Basis K x d) (fun_ext (λ m. ap u (suc-add i m)))))) ∙ series_is x n d (tail u) (tail P))
 
   -- only the d + 2 knots of a basis function count

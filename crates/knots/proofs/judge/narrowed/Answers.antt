@@ -5,13 +5,13 @@ use Rattle.std.proofs.lemmas.Int.{to_z-of_z}
 use Rattle.knots.proofs.Judging.{outside_found, outside_none, store_more, store_all, take_stored, kept_by_magnitudes}
 use Rattle.knots.proofs.judge.narrowed.Goals as goal
 
-pub returns-in-err-stored : goal.returns-in-err-stored
-returns-in-err-stored c =
+pub returns-in_err-stored : goal.returns-in_err-stored
+returns-in_err-stored c =
     let knots = c.args.knots.now in
     let i = c.loop-i.i in
     let fits : SFits w64 (get_or knots i (pos 0)) = search rules in
-    let bad = simp to_z-of_z at c.in-err-stored.ensures in
-    let p = err_from_is_err_and c.from-residual.result c.from-residual.ensures.1 in
+    let bad = simp to_z-of_z at c.in_err-stored.ensures in
+    let p = err_from_is_err_and c.from_residual.result c.from_residual.ensures.1 in
     rw (p.1, p.2) (i, outside_found knots i c.loop-i.invariant.2 c.loop-i-test.true bad.0, bad.1)
 
 pub loop-i-preserved : goal.loop-i-preserved
@@ -19,9 +19,9 @@ loop-i-preserved c =
     let knots = c.args.knots.now in
     let i = c.loop-i.i in
     let fits : SFits w64 (get_or knots i (pos 0)) = search rules in
-    let good = simp to_z-of_z at c.in-ok-stored.ensures in (
-      length-set c.loop-i.stored i c.in-ok-stored.field-0 ∙ c.loop-i.invariant.0,
-      ap (λ l. set l i c.in-ok-stored.field-0) c.loop-i.invariant.1 ∙ store_more knots 70 i c.in-ok-stored.field-0 c.loop-i-test.true c.requires good.1,
+    let good = simp to_z-of_z at c.in_ok-stored.ensures in (
+      length-set c.loop-i.stored i c.in_ok-stored.field-0 ∙ c.loop-i.invariant.0,
+      ap (λ l. set l i c.in_ok-stored.field-0) c.loop-i.invariant.1 ∙ store_more knots 70 i c.in_ok-stored.field-0 c.loop-i-test.true c.requires good.1,
       below_more _ _ c.loop-i.invariant.2 good.0,
     )
 

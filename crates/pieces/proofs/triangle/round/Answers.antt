@@ -26,9 +26,9 @@ loop-j-preserved g c =
     let at = c.ratio-a.ensures.value in
     let n : i < length xs = simp length-map (omega arith) in (
       omega arith,
-      swept_more [] make test c.args.degree old xs (map told c.blend-into-found.new.room) i j _ _ e (omega arith) (omega arith) n c.loop-j.invariant.1
-          (c.blend-into-found.ensures.room ∙ ap (λ w. set xs i (blend_point w.0 w.1 (get_or xs (i - 1) []) (get_or xs i []))) at)
-          (c.blend-into-found.ensures.inexact ∙ ap (λ w. inexact_point w.0 w.1 (get_or xs (i - 1) []) (get_or xs i [])) at),
+      swept_more [] make test c.args.degree old xs (map told c.blend_into-found.new.room) i j _ _ e (omega arith) (omega arith) n c.loop-j.invariant.1
+          (c.blend_into-found.ensures.room ∙ ap (λ w. set xs i (blend_point w.0 w.1 (get_or xs (i - 1) []) (get_or xs i []))) at)
+          (c.blend_into-found.ensures.inexact ∙ ap (λ w. inexact_point w.0 w.1 (get_or xs (i - 1) []) (get_or xs i [])) at),
     )
 
 pub returns : goal.returns

@@ -49,7 +49,7 @@ order_products [] (n ∷ b) = less
 order_products (m ∷ a) [] = more
 order_products (m ∷ a) (n ∷ b) = order_cons (order_variables m n) (order_products a b)
 
--- a signed productLessOne of variables, which are sorted; true stands for minus
+-- a signed product of variables, which are sorted; true stands for minus
 pub data Term : Type 0 where
   term : Bool → List ℕ → Term
 

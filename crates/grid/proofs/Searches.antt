@@ -1,5 +1,7 @@
 -- What a search has found, by what it passed.
-use Rattle.std.proofs.Common.{◌≡◌, ℕ, zero, suc, ◌+◌, ◌<◌, ◌≤◌, Bool, true, false, ◌||◌, Some, None, sym, refl, ap, ◌∙◌, ⊎_elim, arith}
+use Rattle.std.proofs.Common.{◌≡◌, ℕ, zero, suc, ◌+◌, ◌<◌, ◌≤◌, Bool, true, false, cond, ◌||◌, List, [], ◌∷◌, length, get_or, position, Some, None, sym, refl, ap, ◌∙◌, ⊎_elim, arith}
+use Rattle.std.specs.List.{position_from}
+use Rattle.std.proofs.lemmas.Iterator.Adapters.{position_from-zero}
 use Rattle.std.proofs.lemmas.Bool.{cases_Bool, cases_eq, cond-true, cond-false, or_parts}
 use Rattle.grid.specs.Search.{first_where, last_where, any_where}
 
@@ -74,3 +76,17 @@ any_none f i zero j e p q = absurd (omega arith)
 any_none f i (suc n) j e p q =
     let parts = or_parts (any_where f (suc i) n) (f i) e in
     ⊎_elim (λ (s : j ≡ i). ap f s ∙ parts.1) (λ ne. any_none f (suc i) n j parts.0 (omega arith) (omega arith)) (cases_eq j i)
+
+-- the library's search of a list is that of its indices
+position_at : {X : Type 0} (p : X → Bool) (zs : List X) (none : X) (i : ℕ) (xs : List X) → ((k : ℕ) → k < length xs → get_or zs (i + k) none ≡ get_or xs k none)
+    → position_from p i xs ≡ first_where (λ j. p (get_or zs j none)) i (length xs)
+position_at p zs none i [] h = refl
+position_at p zs none i (x ∷ xs) h =
+    let start : i ≡ i + 0 = omega arith in
+    let here : get_or zs i none ≡ x = ap (λ n. get_or zs n none) start ∙ h 0 (omega arith) in
+    let rest = position_at p zs none (suc i) xs (λ k l. let next : suc i + k ≡ i + suc k = omega arith in ap (λ n. get_or zs n none) next ∙ h (suc k) (omega arith)) in
+    let one : i + 1 ≡ suc i = omega arith in
+    ap (λ b. cond b (Some i) (position_from p (i + 1) xs)) (ap p (sym here)) ∙ ap (cond (p (get_or zs i none)) (Some i)) (ap (λ n. position_from p n xs) one ∙ rest)
+
+pub position_is_first : {X : Type 0} (p : X → Bool) (xs : List X) (none : X) → position p xs ≡ first_where (λ i. p (get_or xs i none)) 0 (length xs)
+position_is_first p xs none = position_from-zero p xs ∙ position_at p xs none 0 xs (λ k h. ap (λ n. get_or xs n none) (omega arith))

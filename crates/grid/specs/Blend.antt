@@ -7,14 +7,14 @@ abbrev pub limit : ℕ
 limit = 2 ^ 30
 
 -- a coordinate is a whole number from -2^30 to 2^30
-abbrev pub Coordinate : ℤ → Type 0
-Coordinate z = unsigned_abs z ≤ limit
+abbrev pub IsCoordinate : ℤ → Type 0
+IsCoordinate z = unsigned_abs z ≤ limit
 
 abbrev pub is_coordinate : ℤ → Bool
 is_coordinate z = nat_le (unsigned_abs z) limit
 
 -- a of b: where between two points a blend is taken
-pub record Ratio (a b : ℕ) : Type 0 where
+pub record IsRatio (a b : ℕ) : Type 0 where
   pub part : a ≤ b
   pub some : 1 ≤ b
   pub most : b ≤ 2 ^ 20

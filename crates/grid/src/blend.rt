@@ -1,62 +1,56 @@
-ghost use Rattle.std.specs.Prelude.{◌≡◌, ◌+◌, ◌-◌, ◌*◌, ◌^◌, ◌≤◌, ℤ, pos, ◌*ℤ◌, unsigned_abs};
-ghost use Rattle.grid.specs.Blend.{Coordinate, Ratio, nearest, fractional, blended, inexact, BlendLaw};
+ghost use Rattle.std.specs.Prelude.{◌≡◌, ◌*◌, ◌^◌, ◌≤◌, pos, ◌*ℤ◌, unsigned_abs};
+ghost use Rattle.grid.specs.Blend.{IsCoordinate, nearest, fractional, blended, inexact, BlendLaw};
+
+use crate::coordinate::Coordinate;
+use crate::ratio::Ratio;
+use crate::rounded::Rounded;
 
 // k times a coordinate.
-fn scaled(k: u32, p: i32) -> i64
-    requires coordinate { Coordinate p }
-    requires few { k ≤ 2 ^ 20 }
-    ensures value { result ≡ pos k *ℤ p }
+fn scaled(k: u32, p: Coordinate) -> i64
+    requires { k ≤ 2 ^ 20 }
+    ensures value { result ≡ pos k *ℤ p.value }
     ensures bound { unsigned_abs result ≤ k * 2 ^ 30 }
 {
-    i64::from(k) * i64::from(p)
+    i64::from(k) * i64::from(p.value)
 }
 
-// The whole number nearest to z / b, and whether z / b is not whole.
-fn rounded(z: i64, b: u32) -> (i64, bool)
+// The whole number nearest to z / b, inexact where z / b is not whole.
+fn quotient(z: i64, b: u32) -> Rounded<i64>
     requires size { unsigned_abs z ≤ 2 ^ 60 }
     requires some { 1 ≤ b }
-    ensures value { result.0 ≡ nearest z b }
-    ensures inexact { result.1 ≡ fractional z b }
+    ensures value { result.value ≡ nearest z b }
+    ensures inexact { result.inexact ≡ fractional z b }
 {
     let b = i64::from(b);
     let floor = z.div_euclid(b);
     let rest = z.rem_euclid(b);
-    (floor + i64::from(rest * 2 >= b), rest != 0)
+    Rounded {
+        value: floor + i64::from(rest * 2 >= b),
+        inexact: rest != 0,
+    }
 }
 
-// The rounded mean of two coordinates.
-fn mean(p: i32, q: i32, a: u32, b: u32) -> (i64, bool)
-    requires left { Coordinate p }
-    requires right { Coordinate q }
-    requires ratio { Ratio a b }
-    ensures value { result.0 ≡ blended p q a b }
-    ensures inexact { result.1 ≡ inexact p q a b }
-    ensures coordinate { Coordinate result.0 }
+// The rounded mean of two coordinates, with the laws that it keeps.
+fn mean(p: Coordinate, q: Coordinate, at: Ratio) -> Rounded<i64>
+    ensures value { result.value ≡ blended p.value q.value at.part at.whole }
+    ensures inexact { result.inexact ≡ inexact p.value q.value at.part at.whole }
+    ensures law { BlendLaw p.value q.value at.part at.whole result.value result.inexact }
+    ensures coordinate { IsCoordinate result.value }
 {
-    rounded(scaled(b - a, p) + scaled(a, q), b)
+    quotient(scaled(at.whole - at.part, p) + scaled(at.part, q), at.whole)
 }
 
-// The mean as a coordinate, with the laws that it keeps.
-fn settled(p: i32, q: i32, a: u32, b: u32) -> (i32, bool)
-    requires left { Coordinate p }
-    requires right { Coordinate q }
-    requires ratio { Ratio a b }
-    ensures value { result.0 ≡ blended p q a b }
-    ensures inexact { result.1 ≡ inexact p q a b }
-    ensures law { BlendLaw p q a b result.0 result.1 }
+// The blend of the coordinates p and q, and whether it is inexact.
+pub fn blend(p: Coordinate, q: Coordinate, at: Ratio) -> Rounded<Coordinate>
+    ensures value { result.value.value ≡ blended p.value q.value at.part at.whole }
+    ensures inexact { result.inexact ≡ inexact p.value q.value at.part at.whole }
+    ensures law { BlendLaw p.value q.value at.part at.whole result.value.value result.inexact }
 {
-    let (mean, inexact) = mean(p, q, a, b);
-    (mean as i32, inexact)
-}
-
-// The blend of the coordinates p and q at a of b, and whether it is inexact.
-pub fn blend(p: i32, q: i32, a: u32, b: u32) -> (i32, bool)
-    requires left { Coordinate p }
-    requires right { Coordinate q }
-    requires ratio { Ratio a b }
-    ensures value { result.0 ≡ blended p q a b }
-    ensures inexact { result.1 ≡ inexact p q a b }
-    ensures law { BlendLaw p q a b result.0 result.1 }
-{
-    settled(p, q, a, b)
+    let mean = mean(p, q, at);
+    Rounded {
+        value: Coordinate {
+            value: mean.value as i32,
+        },
+        inexact: mean.inexact,
+    }
 }

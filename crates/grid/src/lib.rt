@@ -1,5 +1,8 @@
-//! The whole-number grid: the blend of two coordinates.
+//! The whole-number grid: coordinates, and the blend of two of them.
 
 #![tactic(auto)]
 
 pub mod blend;
+pub mod coordinate;
+pub mod ratio;
+pub mod rounded;

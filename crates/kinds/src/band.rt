@@ -1,47 +1,45 @@
-ghost use Rattle.std.specs.Prelude.{◌≡◌, [], ◌∷◌, refl, pos, neg_ℤ, slice_index_or};
+ghost use Rattle.std.specs.Prelude.{◌≡◌, [], ◌∷◌, refl};
 ghost use Rattle.std.specs.Int.{int_min, int_max};
 ghost use Rattle.points.specs.Lists.{negated};
 ghost use Rattle.points.specs.Stored.{clamped};
 ghost use Rattle.kinds.specs.Bands.{rising};
 ghost use Rattle.kinds.specs.BandsLemmas.{rises, rising_blend, rising_flip};
 ghost use Rattle.points.proofs.Clamping.{clamped_coordinate, coordinate_least, coordinate_greatest};
-ghost use Rattle.points.proofs.Shapes.{narrow_by, ranged_none, ranged_more, rebuilt};
-ghost use Rattle.std.proofs.Math.IntN.{neg_ℤ-neg_ℤ};
-ghost use Rattle.std.proofs.Common.{ap, ◌∙◌};
+ghost use Rattle.points.proofs.Shapes.{narrow_by, ranged_none, ranged_more};
+ghost use Rattle.points.proofs.Turns.{restores_by};
 
+use grid::coordinate::Coordinate;
 use points::point::Point;
-use points::stored::{mix, opposite, store, tell};
+use points::stored::{opposite, store, tell};
 
 // A tolerance band: the lowest and the highest number that a measure may have. A record tells
-// the lesser of its two numbers first.
-#[derive(Clone, Copy)]
+// the lesser of its two numbers first; `==` compares what is stored.
+#[derive(Clone, Copy, PartialEq, Eq, Debug)]
 pub struct Band {
     pub low: i32,
     pub high: i32,
 }
 
 impl Band {
-    // The lesser of the two as told.
-    fn lesser(&self) -> i32
-        ensures value { result ≡ int_min (clamped self.now.low) (clamped self.now.high) }
-        ensures kept { clamped result ≡ int_min (clamped self.now.low) (clamped self.now.high) }
+    // Its two as told, the lesser first.
+    fn ends(&self) -> (Coordinate, Coordinate)
+        ensures lesser { result.0.value ≡ int_min (clamped self.now.low) (clamped self.now.high) }
+        ensures greater { result.1.value ≡ int_max (clamped self.now.low) (clamped self.now.high) }
     {
-        tell(self.low).min(tell(self.high))
-    }
-
-    // The greater of the two as told.
-    fn greater(&self) -> i32
-        ensures value { result ≡ int_max (clamped self.now.low) (clamped self.now.high) }
-        ensures kept { clamped result ≡ int_max (clamped self.now.low) (clamped self.now.high) }
-    {
-        tell(self.low).max(tell(self.high))
+        let low = tell(self.low);
+        let high = tell(self.high);
+        if low.value <= high.value {
+            (low, high)
+        } else {
+            (high, low)
+        }
     }
 }
 
 impl Point for Band {
     const WIDTH: usize = 2;
 
-    ghost width = { 2 };
+    ghost WIDTH = { 2 };
 
     ghost told = { λ p. int_min (clamped p.low) (clamped p.high) ∷ (int_max (clamped p.low) (clamped p.high) ∷ []) };
 
@@ -62,14 +60,7 @@ impl Point for Band {
 
     ghost flips = { rising_flip };
 
-    ghost restores = { λ xs p.
-        let x = slice_index_or xs 0 (pos 0) in
-        let y = slice_index_or xs 1 (pos 0) in
-        ap (λ v. v ∷ (neg_ℤ (neg_ℤ y) ∷ [])) (neg_ℤ-neg_ℤ x) ∙ ap (λ v. x ∷ (v ∷ [])) (neg_ℤ-neg_ℤ y) ∙ rebuilt 2 xs p.long };
-
-    fn wide() -> usize {
-        Self::WIDTH
-    }
+    ghost restores = { restores_by (negated 1 ∷ (negated 0 ∷ [])) rising refl };
 
     fn admits(xs: &[i64]) -> bool {
         xs[0] <= xs[1]
@@ -82,24 +73,12 @@ impl Point for Band {
         }
     }
 
-    fn coordinate(&self, i: usize) -> i32 {
+    fn coordinate(&self, i: usize) -> Coordinate {
         match i {
-            0 => self.lesser(),
-            1 => self.greater(),
-            _ => 0,
+            0 => self.ends().0,
+            1 => self.ends().1,
+            _ => Coordinate::ZERO,
         }
-    }
-
-    fn blend(&self, other: &Band, a: u32, b: u32) -> (Band, bool) {
-        let low = mix(self.lesser(), other.lesser(), a, b);
-        let high = mix(self.greater(), other.greater(), a, b);
-        (
-            Band {
-                low: low.0,
-                high: high.0,
-            },
-            high.1 | low.1,
-        )
     }
 
     fn flip(self) -> Band {

@@ -1,15 +1,16 @@
-ghost use Rattle.std.specs.Prelude.{[], ◌∷◌, refl, pos, slice_index_or};
+ghost use Rattle.std.specs.Prelude.{[], ◌∷◌, refl};
 ghost use Rattle.points.specs.Lists.{unconditional, kept, negated};
 ghost use Rattle.points.specs.Stored.{clamped};
-ghost use Rattle.points.proofs.Shapes.{clamped_ranged, narrow_by, rebuilt};
-ghost use Rattle.std.proofs.Math.IntN.{neg_ℤ-neg_ℤ};
-ghost use Rattle.std.proofs.Common.{ap, ◌∙◌};
+ghost use Rattle.points.proofs.Shapes.{clamped_ranged, narrow_by};
+ghost use Rattle.points.proofs.Turns.{restores_by};
 
+use grid::coordinate::Coordinate;
 use points::point::Point;
-use points::stored::{mix, opposite, store, tell};
+use points::stored::{opposite, store, tell};
 
-// A point in the plane; its flip is the mirror image across the keel line.
-#[derive(Clone, Copy)]
+// A point in the plane; its flip is the mirror image across the keel line. `==` compares what is
+// stored.
+#[derive(Clone, Copy, PartialEq, Eq, Debug)]
 pub struct PlanePoint {
     pub x: i32,
     pub y: i32,
@@ -18,7 +19,7 @@ pub struct PlanePoint {
 impl Point for PlanePoint {
     const WIDTH: usize = 2;
 
-    ghost width = { 2 };
+    ghost WIDTH = { 2 };
 
     ghost told = { λ p. clamped p.x ∷ (clamped p.y ∷ []) };
 
@@ -34,11 +35,7 @@ impl Point for PlanePoint {
 
     ghost flips = { λ xs p. refl };
 
-    ghost restores = { λ xs p. ap (λ x. x ∷ (slice_index_or xs 1 (pos 0) ∷ [])) (neg_ℤ-neg_ℤ (slice_index_or xs 0 (pos 0))) ∙ rebuilt 2 xs p.long };
-
-    fn wide() -> usize {
-        Self::WIDTH
-    }
+    ghost restores = { restores_by (negated 0 ∷ (kept 1 ∷ [])) unconditional refl };
 
     fn admits(_xs: &[i64]) -> bool {
         true
@@ -51,18 +48,12 @@ impl Point for PlanePoint {
         }
     }
 
-    fn coordinate(&self, i: usize) -> i32 {
+    fn coordinate(&self, i: usize) -> Coordinate {
         match i {
             0 => tell(self.x),
             1 => tell(self.y),
-            _ => 0,
+            _ => Coordinate::ZERO,
         }
-    }
-
-    fn blend(&self, other: &PlanePoint, a: u32, b: u32) -> (PlanePoint, bool) {
-        let x = mix(self.x, other.x, a, b);
-        let y = mix(self.y, other.y, a, b);
-        (PlanePoint { x: x.0, y: y.0 }, y.1 | x.1)
     }
 
     fn flip(self) -> PlanePoint {

@@ -1,15 +1,16 @@
-ghost use Rattle.std.specs.Prelude.{[], ◌∷◌, refl, pos, slice_index_or};
+ghost use Rattle.std.specs.Prelude.{[], ◌∷◌, refl};
 ghost use Rattle.points.specs.Lists.{unconditional, kept, negated};
 ghost use Rattle.points.specs.Stored.{clamped};
-ghost use Rattle.points.proofs.Shapes.{clamped_ranged, narrow_by, rebuilt};
-ghost use Rattle.std.proofs.Math.IntN.{neg_ℤ-neg_ℤ};
-ghost use Rattle.std.proofs.Common.{ap, ◌∙◌};
+ghost use Rattle.points.proofs.Shapes.{clamped_ranged, narrow_by};
+ghost use Rattle.points.proofs.Turns.{restores_by};
 
+use grid::coordinate::Coordinate;
 use points::point::Point;
-use points::stored::{mix, opposite, store, tell};
+use points::stored::{opposite, store, tell};
 
-// A point in space; its flip is the mirror image across the keel plane.
-#[derive(Clone, Copy)]
+// A point in space; its flip is the mirror image across the keel plane. `==` compares what is
+// stored.
+#[derive(Clone, Copy, PartialEq, Eq, Debug)]
 pub struct SpacePoint {
     pub x: i32,
     pub y: i32,
@@ -19,7 +20,7 @@ pub struct SpacePoint {
 impl Point for SpacePoint {
     const WIDTH: usize = 3;
 
-    ghost width = { 3 };
+    ghost WIDTH = { 3 };
 
     ghost told = { λ p. clamped p.x ∷ (clamped p.y ∷ (clamped p.z ∷ [])) };
 
@@ -35,11 +36,7 @@ impl Point for SpacePoint {
 
     ghost flips = { λ xs p. refl };
 
-    ghost restores = { λ xs p. ap (λ x. x ∷ (slice_index_or xs 1 (pos 0) ∷ (slice_index_or xs 2 (pos 0) ∷ []))) (neg_ℤ-neg_ℤ (slice_index_or xs 0 (pos 0))) ∙ rebuilt 3 xs p.long };
-
-    fn wide() -> usize {
-        Self::WIDTH
-    }
+    ghost restores = { restores_by (negated 0 ∷ (kept 1 ∷ (kept 2 ∷ []))) unconditional refl };
 
     fn admits(_xs: &[i64]) -> bool {
         true
@@ -53,27 +50,13 @@ impl Point for SpacePoint {
         }
     }
 
-    fn coordinate(&self, i: usize) -> i32 {
+    fn coordinate(&self, i: usize) -> Coordinate {
         match i {
             0 => tell(self.x),
             1 => tell(self.y),
             2 => tell(self.z),
-            _ => 0,
+            _ => Coordinate::ZERO,
         }
-    }
-
-    fn blend(&self, other: &SpacePoint, a: u32, b: u32) -> (SpacePoint, bool) {
-        let x = mix(self.x, other.x, a, b);
-        let y = mix(self.y, other.y, a, b);
-        let z = mix(self.z, other.z, a, b);
-        (
-            SpacePoint {
-                x: x.0,
-                y: y.0,
-                z: z.0,
-            },
-            z.1 | y.1 | x.1,
-        )
     }
 
     fn flip(self) -> SpacePoint {

@@ -1,3 +1,3 @@
 pub mod Lawfuls
 mod Judging
-mod Halving
+mod Spans

@@ -1,8 +1,7 @@
 -- Lawful degrees, counts and knot lists, and the causes that refuse the others.
-use Rattle.std.specs.Prelude.{◌≡◌, ℕ, ◌+◌, ◌-◌, ◌^◌, ◌<◌, ◌≤◌, Bool, cond, not, ◌&&◌, ◌||◌, ◌≢◌, List, [], ◌∷◌, ◌++◌, map, length, replicate, ℤ, pos, None, Option, ◌==◌, int_le, nat_le, nat_lt, slice_index, slice_index_or, unsigned_abs}
+use Rattle.std.specs.Prelude.{◌≡◌, ℕ, ◌+◌, ◌-◌, ◌^◌, ◌<◌, ◌≤◌, Bool, cond, not, ◌&&◌, ◌||◌, ◌≢◌, List, count_by, map, length, take, ℤ, pos, None, Option, ◌==◌, int_le, nat_le, nat_lt, slice_index, slice_index_or, unsigned_abs}
 use Rattle.refusals.specs.Order.{unless, at}
 use Rattle.grid.specs.Search.{first_where}
-use Rattle.knots.specs.declared.list.KnotList.{KnotList}
 use Rattle.refusals.specs.declared.piece.PieceFault.{PieceFault}
 use Rattle.refusals.specs.declared.piece.PieceFault.TheVariants.{Degree, Count, KnotCount, KnotRange, KnotFalls, KnotRepeats}
 
@@ -18,10 +17,13 @@ is_count d count = nat_le (d + 1) count && nat_le count 64
 abbrev pub is_knot : ℤ → Bool
 is_knot knot = int_le (pos 0) knot && int_le knot (pos (2 ^ 20))
 
+-- of stored knots those in use, for degree d and so many control points
+abbrev pub first_knots : ℕ → ℕ → List ℕ → List ℕ
+first_knots d count ks = take (count + d + 1) ks
+
 -- how often a value stands in a knot list
 abbrev pub times : ℕ → List ℕ → ℕ
-times x [] = 0
-times x (k ∷ ks) = cond (k == x) 1 0 + times x ks
+times x ks = count_by (λ k. k == x) ks
 
 abbrev pub first_knot : List ℕ → ℕ
 first_knot ks = slice_index ks 0
@@ -79,10 +81,3 @@ piece_refusal degree count knots =
 abbrev pub RefusesTheUnlawful : Type 0
 RefusesTheUnlawful =
     (d count : ℕ) (ks : List ℕ) → (piece_refusal (pos d) count (map pos ks) ≡ None → Lawful d count ks) × (Lawful d count ks → piece_refusal (pos d) count (map pos ks) ≡ None)
-
--- what a record stores of them: the knots first, then 0
-pub record Stores (degree : ℤ) (count : ℕ) (knots : List ℤ) (l : KnotList) : Type 0 where
-  pub degree_is : degree ≡ pos l.degree
-  pub count_is : count ≡ l.count
-  pub knots_are : l.knots ≡ map unsigned_abs knots ++ replicate (70 - length knots) 0
-  pub in_range : knots ≡ map pos (map unsigned_abs knots)

@@ -1,46 +1,38 @@
 ghost use Rattle.std.specs.Prelude.{◌≡◌, ℕ, ◌+◌, ◌-◌, ◌<◌, ◌≤◌, true, false, ◌++◌, map, length, take, replicate, pos, Some, None, MatchResult, ◌==◌, unsigned_abs};
-ghost use Rattle.knots.specs.Lawful.{piece_refusal, Stores, Lawful, is_degree, is_count, is_knot, times, repeats_well, first_outside, first_fall, first_ill_repeated};
-ghost use Rattle.refusals.specs.declared.piece.PieceFault.TheVariants.{Degree, Count, KnotCount, KnotRange, KnotFalls, KnotRepeats};
+ghost use Rattle.std.specs.List.{list_all};
+ghost use Rattle.knots.specs.Lawful.{piece_refusal, first_knots, is_count, is_knot, times, repeats_well, first_outside, first_fall, first_ill_repeated};
+ghost use Rattle.knots.specs.Stores.{Stores};
+ghost use Rattle.refusals.specs.declared.piece.PieceFault.TheVariants.{Count, KnotCount, KnotRange, KnotFalls, KnotRepeats};
 
+use crate::degree::Degree;
 use crate::list::{KnotList, MOST_KNOTS};
 use refusals::piece::PieceFault;
 
-// Degree is 1 to 5.
-fn judged_degree(degree: i64) -> Result<usize, PieceFault>
-    ensures { MatchResult result
-        (λ d. (is_degree degree ≡ true) × (degree ≡ pos d) × (d ≤ 5))
-        (λ e. (is_degree degree ≡ false) × (e ≡ Degree)) }
-{
-    if degree < 1 || degree > 5 {
-        return Err(PieceFault::Degree);
-    }
-    Ok(degree as usize)
-}
-
 // A piece of degree d has from d + 1 to 64 control points.
-fn judge_count(degree: usize, count: usize) -> Result<(), PieceFault>
-    requires { degree ≤ 5 }
+fn judge_count(degree: Degree, count: usize) -> Result<(), PieceFault>
     ensures { MatchResult result
-        (λ _. (is_count degree count ≡ true) × (count ≤ 64))
-        (λ e. (is_count degree count ≡ false) × (e ≡ Count)) }
+        (λ _. (is_count degree.value count ≡ true) × (count ≤ 64))
+        (λ e. (is_count degree.value count ≡ false) × (e ≡ Count)) }
 {
-    if count < degree + 1 || count > 64 {
-        return Err(PieceFault::Count);
+    if (degree.value + 1..=64).contains(&count) {
+        Ok(())
+    } else {
+        Err(PieceFault::Count)
     }
-    Ok(())
 }
 
 // As many knots as control points, degree and one together.
-fn judge_knot_count(degree: usize, count: usize, knots: usize) -> Result<(), PieceFault>
-    requires { (degree ≤ 5) × (count ≤ 64) }
+fn judge_knot_count(degree: Degree, count: usize, knots: usize) -> Result<(), PieceFault>
+    requires { count ≤ 64 }
     ensures { MatchResult result
-        (λ _. knots ≡ count + degree + 1)
-        (λ e. ((knots == count + degree + 1) ≡ false) × (e ≡ KnotCount)) }
+        (λ _. knots ≡ count + degree.value + 1)
+        (λ e. ((knots == count + degree.value + 1) ≡ false) × (e ≡ KnotCount)) }
 {
-    if knots != count + degree + 1 {
-        return Err(PieceFault::KnotCount);
+    if knots == count + degree.value + 1 {
+        Ok(())
+    } else {
+        Err(PieceFault::KnotCount)
     }
-    Ok(())
 }
 
 // A knot is 0 to 1,048,576; it is stored in 32 bits.
@@ -49,35 +41,29 @@ fn judged_knot(knot: i64, place: usize) -> Result<u32, PieceFault>
         (λ k. (is_knot knot ≡ true) × (knot ≡ pos k))
         (λ e. (is_knot knot ≡ false) × (e ≡ KnotRange place)) }
 {
-    if knot < 0 || knot > 1_048_576 {
-        return Err(PieceFault::KnotRange(place));
+    match u32::try_from(knot) {
+        Ok(k @ 0..=1_048_576) => Ok(k),
+        _ => Err(PieceFault::KnotRange(place)),
     }
-    Ok(knot as u32)
 }
 
 // How often a value stands in a knot list.
 fn occurrences(x: u32, knots: &[u32]) -> usize
     ensures { result ≡ times x knots.now }
 {
-    let mut seen = 0;
-    for knot in knots {
-        if *knot == x {
-            seen += 1;
-        }
-    }
-    seen
+    knots.iter().filter(|knot| **knot == x).count()
 }
 
 // The first and the last value stand degree + 1 times, any other at most degree times.
-fn repeats_well(degree: usize, knots: &[u32], x: u32) -> bool
-    requires { (degree ≤ 5) × (0 < length knots.now) }
-    ensures { result ≡ repeats_well degree knots.now x }
+fn repeats_well(degree: Degree, knots: &[u32], x: u32) -> bool
+    requires { 0 < length knots.now }
+    ensures { result ≡ repeats_well degree.value knots.now x }
 {
     let seen = occurrences(x, knots);
     if x == knots[0] || x == knots[knots.len() - 1] {
-        seen == degree + 1
+        seen == degree.value + 1
     } else {
-        seen <= degree
+        seen <= degree.value
     }
 }
 
@@ -99,6 +85,7 @@ fn narrowed(knots: &[i64]) -> Result<[u32; MOST_KNOTS], PieceFault>
 }
 
 // No knot is below the one before.
+#[tactic(auto, using(crate::proofs::Judging::fall_found, crate::proofs::Judging::fall_none))]
 fn judge_order(knots: &[u32]) -> Result<(), PieceFault>
     ensures { MatchResult result
         (λ _. first_fall knots.now ≡ None)
@@ -112,26 +99,32 @@ fn judge_order(knots: &[u32]) -> Result<(), PieceFault>
     Ok(())
 }
 
-// No value stands too often or too seldom.
-fn judge_repeats(degree: usize, knots: &[u32]) -> Result<(), PieceFault>
-    requires { degree ≤ 5 }
-    ensures { MatchResult result
-        (λ _. first_ill_repeated degree knots.now ≡ None)
-        (λ e. (i : ℕ) × (first_ill_repeated degree knots.now ≡ Some i) × (e ≡ KnotRepeats)) }
+// Whether each value stands as often as it may.
+fn all_repeat_well(degree: Degree, knots: &[u32]) -> bool
+    ensures { result ≡ list_all (repeats_well degree.value knots.now) knots.now }
 {
-    for knot in knots {
-        if !repeats_well(degree, knots, *knot) {
-            return Err(PieceFault::KnotRepeats);
-        }
-    }
-    Ok(())
+    knots.iter().all(|knot| repeats_well(degree, knots, *knot))
 }
 
-// The record of what nothing refuses, which is lawful.
+// No value stands too often or too seldom.
+#[tactic(auto, using(crate::proofs::Judging::none_ill, crate::proofs::Judging::some_ill))]
+fn judge_repeats(degree: Degree, knots: &[u32]) -> Result<(), PieceFault>
+    ensures { MatchResult result
+        (λ _. first_ill_repeated degree.value knots.now ≡ None)
+        (λ e. (i : ℕ) × (first_ill_repeated degree.value knots.now ≡ Some i) × (e ≡ KnotRepeats)) }
+{
+    if all_repeat_well(degree, knots) {
+        Ok(())
+    } else {
+        Err(PieceFault::KnotRepeats)
+    }
+}
+
+// The list of what nothing refuses, which is lawful.
+#[tactic(auto, using(crate::proofs::Lawfuls::lawful))]
 fn listed(degree: usize, count: usize, knots: [u32; MOST_KNOTS]) -> KnotList
-    requires { piece_refusal (pos degree) count (map pos (take (count + degree + 1) knots)) ≡ None }
-    ensures fields { (result.degree ≡ degree) × (result.count ≡ count) × (result.knots ≡ knots) }
-    ensures lawful { Lawful result.degree result.count (take (result.count + result.degree + 1) result.knots) }
+    requires { piece_refusal (pos degree) count (map pos (first_knots degree count knots)) ≡ None }
+    ensures { (result.degree ≡ degree) × (result.count ≡ count) × (result.knots ≡ knots) }
 {
     KnotList {
         degree,
@@ -146,16 +139,13 @@ pub fn judge(degree: i64, count: usize, knots: &[i64]) -> Result<KnotList, Piece
     ensures judged { MatchResult result
         (λ l. (piece_refusal degree count knots.now ≡ None) × Stores degree count knots.now l)
         (λ e. piece_refusal degree count knots.now ≡ Some e) }
-    ensures lawful { MatchResult result
-        (λ l. Lawful l.degree l.count (take (l.count + l.degree + 1) l.knots) × (l.count + l.degree + 1 ≤ 70))
-        (λ _. Unit {0}) }
 {
-    let degree = judged_degree(degree)?;
+    let degree = Degree::try_from(degree)?;
     judge_count(degree, count)?;
     judge_knot_count(degree, count, knots.len())?;
     let stored = narrowed(knots)?;
-    let in_use = &stored[0..knots.len()];
+    let in_use = &stored[..knots.len()];
     judge_order(in_use)?;
     judge_repeats(degree, in_use)?;
-    Ok(listed(degree, count, stored))
+    Ok(listed(degree.value, count, stored))
 }

@@ -2,6 +2,7 @@
 
 #![tactic(auto)]
 
+mod degree;
 pub mod judge;
 pub mod list;
 pub mod rule;

@@ -5,4 +5,3 @@ pub mod Shifts
 pub mod Windows
 pub mod AsSplines
 pub mod Rounding
-mod Computing

@@ -1,6 +1,6 @@
 -- A sweep down a row: from its last place to the place j each entry is made of the old one before it and the old one
 -- there, and below j the old ones stand.
-use Rattle.std.proofs.Common.{◌≡◌, ℕ, ◌+◌, ◌-◌, ◌<◌, ◌≤◌, Bool, ◌||◌, ◌≢◌, List, length, get_or, set, sym, refl, ap, ◌∙◌, ⊎_elim, arith}
+use Rattle.std.proofs.Common.{◌≡◌, ℕ, ◌+◌, ◌-◌, ◌<◌, ◌≤◌, Bool, ◌||◌, ◌≢◌, List, length, get_or, set, sym, ap, ◌∙◌, ⊎_elim, arith}
 use Rattle.std.proofs.lemmas.List.{get_or-set_same, get_or-set_other}
 use Rattle.std.proofs.lemmas.Bool.{cases_eq}
 use Rattle.grid.specs.Search.{any_where}
@@ -19,14 +19,9 @@ module _ {X : Type 0} (none : X) (make : ℕ → X → X → X) (test : ℕ → 
     pub left : (i : ℕ) → i < j → get_or xs i none ≡ get_or old i none
     pub seen : found ≡ any_where tested j (last + 1 - j)
 
-  pub swept_none : (found : Bool) → found ≡ any_where tested (last + 1) 0 → Swept (last + 1) old found
-  swept_none found e =
-      let z : 0 ≡ last + 1 - (last + 1) = omega arith in
-      record { done = λ i h l. absurd (omega arith); left = λ i h. refl; seen = e ∙ ap (any_where tested (last + 1)) z }
-
-  pub swept_more : (xs ys : List X) (i j : ℕ) (was found : Bool) → i + 1 ≡ j → 1 ≤ i → i ≤ last → i < length xs → Swept j xs was
+  pub swept_more : (xs ys : List X) (i j : ℕ) (was found : Bool) → j ≡ i → 1 ≤ i → i ≤ last → i < length xs → Swept (i + 1) xs was
       → ys ≡ set xs i (make i (get_or xs (i - 1) none) (get_or xs i none)) → found ≡ test i (get_or xs (i - 1) none) (get_or xs i none)
-      → Swept i ys (was || found)
+      → Swept j ys (was || found)
   swept_more xs ys i j was found e first h n s w t =
       let a = s.left (i - 1) (omega arith) in
       let b = s.left i (omega arith) in
@@ -34,10 +29,7 @@ module _ {X : Type 0} (none : X) (make : ℕ → X → X → X) (test : ℕ → 
       let here : found ≡ tested i = rw (a, b) at t in
       record {
         done = λ k l m.
-            ⊎_elim
-            (λ (q : k ≡ i). ap (λ v. get_or v k none) new ∙ ap (λ v. get_or (set xs i (made i)) v none) q ∙ get_or-set_same xs i (made i) none n ∙ ap made (sym q))
-            (λ (q : k ≢ i). ap (λ v. get_or v k none) new ∙ get_or-set_other xs i k (made i) none q ∙ s.done k (omega arith) m)
-            (cases_eq k i);
-        left = λ k l. let q : k ≢ i = omega arith in ap (λ v. get_or v k none) new ∙ get_or-set_other xs i k (made i) none q ∙ s.left k (omega arith);
-        seen = ap (λ v. v || found) s.seen ∙ ap (λ v. any_where tested j (last + 1 - j) || v) here ∙ any_more tested i j (last + 1 - j) (last + 1 - i) e (omega arith);
+            ⊎_elim (λ (q : k ≡ i). rw (new, q) (get_or-set_same xs i (made i) none n)) (λ (q : k ≢ i). rw new (get_or-set_other xs i k (made i) none q ∙ s.done k (omega arith) m)) (cases_eq k i);
+        left = λ k l. let q : k ≢ i = omega arith in rw new (get_or-set_other xs i k (made i) none q ∙ s.left k (omega arith));
+        seen = rw (s.seen, here ∙ ap tested (sym e)) (any_more tested j (i + 1) (last + 1 - (i + 1)) (last + 1 - j) (omega arith) (omega arith));
       }

@@ -1,4 +1,4 @@
--- What the inner functions of the triangle ask of the knots that they are lent.
+-- What the triangle asks of the knots around a parameter.
 use Rattle.std.specs.Prelude.{ℕ, ◌+◌, ◌^◌, ◌<◌, ◌≤◌, List, length, slice_index}
 
 -- of 2 d + 1 knots those at places 1 to d are at most u, and the d after them are above u

@@ -3,3 +3,4 @@ pub mod Shapes
 pub mod Rowing
 pub mod Boxing
 pub mod Coordinates
+pub mod Turns

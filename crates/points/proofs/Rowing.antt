@@ -1,10 +1,10 @@
 -- Rows of lists, one list after another.
-use Rattle.std.proofs.Common.{◌≡◌, ℕ, zero, suc, ◌+◌, ◌<◌, ◌≤◌, Bool, List, [], ◌∷◌, map, length, get_or, drop, ℤ, Some, None, Option, refl, ap, ◌∙◌, arith}
-use Rattle.std.proofs.lemmas.List.{at_drop_more, at_drop_all}
+use Rattle.std.proofs.Common.{◌≡◌, ℕ, zero, suc, ◌+◌, ◌<◌, ◌≤◌, Bool, List, [], ◌∷◌, map, length, get_or, drop, ℤ, Some, None, Option, Bor, sym, refl, ap, ◌∙◌, subst, arith}
+use Rattle.std.proofs.lemmas.List.{at_drop_more, at_drop_all, get_or-map, length-map}
 use Rattle.refusals.specs.declared.point.PointFault.{PointFault}
-use Rattle.points.specs.Lists.{IsPoint, point_refusal}
+use Rattle.points.specs.Lists.{IsPoint, coordinates, point_refusal}
 use Rattle.points.specs.Rows.{placed_after, or_else, row_refusal}
-use Rattle.points.proofs.Shapes.{accepted}
+use Rattle.points.proofs.Shapes.{accepted, rebuilt}
 
 module _ (width : ℕ) (passes : List ℤ → Bool) where
   -- a list that is a point passes the search on
@@ -40,3 +40,14 @@ module _ (width : ℕ) (passes : List ℤ → Bool) where
 
   pub rest_none : {X : Type 0} (f : X → List ℤ) (xs : List X) (before i : ℕ) → length xs ≤ i → row_refusal width passes before (map f (drop i xs)) ≡ None
   rest_none f xs before i h = at_drop_all (λ l. row_refusal width passes before (map f l)) xs i h
+
+-- the same of lists that are lent
+pub lent_point : (width : ℕ) (passes : List ℤ → Bool) (lists : List (Bor (List ℤ))) (none : Bor (List ℤ)) (i : ℕ) → row_refusal width passes 0 (map (λ x. x.now) lists) ≡ None → i < length lists
+    → IsPoint width passes (get_or lists i none).now
+lent_point width passes lists none i e h =
+    let l : i < length (map (λ x. x.now) lists) = subst (λ n. i < n) (sym (length-map lists (λ x. x.now))) h in
+    subst (IsPoint width passes) (get_or-map (λ x. x.now) lists i none [] h) (row_points width passes 0 (map (λ x. x.now) lists) e i l)
+
+pub lent_listed : (width : ℕ) (passes : List ℤ → Bool) (lists : List (Bor (List ℤ))) (none : Bor (List ℤ)) (i : ℕ) → row_refusal width passes 0 (map (λ x. x.now) lists) ≡ None → i < length lists
+    → coordinates width (get_or lists i none).now ≡ (get_or lists i none).now
+lent_listed width passes lists none i e h = rebuilt width (get_or lists i none).now (lent_point width passes lists none i e h).long

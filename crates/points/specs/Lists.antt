@@ -1,7 +1,7 @@
 -- Points as lists of coordinates: what makes one, its blend and its flip.
 use Rattle.std.specs.Prelude.{◌≡◌, ℕ, Bool, true, false, cond, not, ◌||◌, List, [], ◌∷◌, map, length, get_or, ℤ, pos, neg_ℤ, None, Option, ◌==◌, slice_index_or}
 use Rattle.std.specs.List.{range_with_len}
-use Rattle.grid.specs.Blend.{Coordinate, is_coordinate, blended, inexact}
+use Rattle.grid.specs.Blend.{IsCoordinate, is_coordinate, blended, inexact}
 use Rattle.refusals.specs.Order.{unless, at}
 use Rattle.grid.specs.Search.{first_where}
 use Rattle.refusals.specs.declared.point.PointFault.{PointFault}
@@ -11,7 +11,7 @@ use Rattle.refusals.specs.declared.point.PointFault.TheVariants.{Count, Range, T
 -- and it passes the kind's test
 pub record IsPoint (width : ℕ) (passes : List ℤ → Bool) (xs : List ℤ) : Type 0 where
   pub long : length xs ≡ width
-  pub ranged : (i : ℕ) → Coordinate (slice_index_or xs i (pos 0))
+  pub ranged : (i : ℕ) → IsCoordinate (slice_index_or xs i (pos 0))
   pub passed : passes xs ≡ true
 
 -- the first n coordinates of a list, one by one

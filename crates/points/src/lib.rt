@@ -1,7 +1,8 @@
-//! Kinds of point: the trait and rows of points.
+//! Kinds of point: the trait, the blend of points, how records store numbers, and rows of points.
 
 #![tactic(auto)]
 
+pub mod blend;
 pub mod point;
 pub mod row;
 pub mod rule;

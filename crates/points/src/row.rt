@@ -1,9 +1,10 @@
-ghost use Rattle.std.specs.Prelude.{◌≡◌, ◌+◌, ◌^◌, ◌<◌, ◌≤◌, map, length, take, drop, Some, None, MatchResult};
+ghost use Rattle.std.specs.Prelude.{◌≡◌, ◌^◌, ◌<◌, ◌≤◌, map, length, take, drop, Some, None, MatchResult};
 ghost use Rattle.refusals.specs.Causes.{point_report};
 ghost use Rattle.points.specs.Rows.{row_refusal, placed_after};
 
 use crate::point::Point;
 use refusals::point::PointFault;
+use std::marker::PhantomData;
 
 // A fault of a list that stands after so many coordinates.
 fn placed(fault: PointFault, before: usize) -> PointFault
@@ -11,48 +12,48 @@ fn placed(fault: PointFault, before: usize) -> PointFault
     ensures { result ≡ placed_after before fault }
 {
     match fault {
-        PointFault::Count => PointFault::Count,
         PointFault::Range(i) => PointFault::Range(before + i),
-        PointFault::Test => PointFault::Test,
+        other => other,
     }
 }
 
-// Whether lists make a row of points: they are tried in order, and a coordinate out of range is
-// placed by its index through all of them.
-pub fn check_row<P: Point>(lists: &[&[i64]]) -> Result<(), PointFault>
-    requires { length lists.now ≤ 64 }
-    ensures { MatchResult result
-        (λ _. row_refusal P.width P.passes 0 (map (λ x. x.now) lists.now) ≡ None)
-        (λ e. row_refusal P.width P.passes 0 (map (λ x. x.now) lists.now) ≡ Some e) }
-{
-    let mut before = 0;
-    for xs in lists {
-        match P::make(xs) {
-            Ok(_) => before += P::wide(),
-            Err(fault) => return Err(placed(fault, before)),
+// Lists of which each means a point of the kind P.
+#[derive(Drop)]
+pub struct CheckedRow<'a, P: Point> {
+    pub lists: &'a [&'a [i64]],
+    pub kind: PhantomData<P>,
+    ghost checked: { row_refusal P.WIDTH P.passes 0 (map (λ x. x.now) lists.now) ≡ None },
+}
+
+impl<'a, P: Point> CheckedRow<'a, P> {
+    // Checks lists: they are tried in order, and a coordinate out of range is placed by its index
+    // through all of them.
+    pub fn check(lists: &'a [&'a [i64]]) -> Result<Self, PointFault>
+        requires { length lists.now ≤ 64 }
+        ensures { MatchResult result
+            (λ row. (row_refusal P.WIDTH P.passes 0 (map (λ x. x.now) lists.now) ≡ None) × (row.lists.now ≡ lists.now))
+            (λ e. row_refusal P.WIDTH P.passes 0 (map (λ x. x.now) lists.now) ≡ Some e) }
+    {
+        for (i, xs) in lists.iter().enumerate() {
+            if let Err(fault) = P::make(xs) {
+                return Err(placed(fault, i * P::WIDTH));
+            }
+        }
+        Ok(CheckedRow {
+            lists,
+            kind: PhantomData,
+        })
+    }
+
+    // Fills a row from its start with the points, one after another; the rest of it stays.
+    #[tactic(auto, using(crate::proofs::Rowing::lent_point, crate::proofs::Rowing::lent_listed))]
+    pub fn fill(&self, row: &mut [P])
+        requires { length self.now.lists.now ≤ length row.old }
+        ensures made { map P.told (take (length self.now.lists.now) row.new) ≡ map (λ x. x.now) self.now.lists.now }
+        ensures rest { drop (length self.now.lists.now) row.new ≡ drop (length self.now.lists.now) row.old }
+    {
+        for (i, xs) in self.lists.iter().enumerate() {
+            row[i] = P::of(xs);
         }
     }
-    Ok(())
-}
-
-// Makes and writes the points of lists, one after another.
-fn write<P: Point>(lists: &[&[i64]], row: &mut [P])
-    requires checked { row_refusal P.width P.passes 0 (map (λ x. x.now) lists.now) ≡ None }
-    requires long { length lists.now ≤ length row.old }
-    ensures made { map P.told (take (length lists.now) row.new) ≡ map (λ x. x.now) lists.now }
-    ensures rest { drop (length lists.now) row.new ≡ drop (length lists.now) row.old }
-{
-    for (i, xs) in lists.iter().enumerate() {
-        row[i] = P::of(xs);
-    }
-}
-
-// Fills a row from its start with the points of lists that were checked; the rest of it stays.
-pub fn fill_row<P: Point>(lists: &[&[i64]], row: &mut [P])
-    requires checked { row_refusal P.width P.passes 0 (map (λ x. x.now) lists.now) ≡ None }
-    requires long { length lists.now ≤ length row.old }
-    ensures made { map P.told (take (length lists.now) row.new) ≡ map (λ x. x.now) lists.now }
-    ensures rest { drop (length lists.now) row.new ≡ drop (length lists.now) row.old }
-{
-    write(lists, row);
 }

@@ -1,33 +1,27 @@
 //! Numbers as a record stores them: each is told as a coordinate, whatever it is.
 
 ghost use Rattle.std.specs.Prelude.{◌≡◌, ℕ, ◌<◌, length, pos, neg_ℤ, slice_index_or};
-ghost use Rattle.grid.specs.Blend.{Coordinate, Ratio, blended, inexact};
+ghost use Rattle.grid.specs.Blend.{IsCoordinate};
 ghost use Rattle.points.specs.Stored.{clamped};
 
-use grid::blend::blend;
+use grid::coordinate::Coordinate;
 
-// The number, or the nearest limit where it is out of range.
-fn limited(stored: i32) -> i32
-    ensures value { result ≡ clamped stored }
-    ensures coordinate { Coordinate result }
+// A stored number as it is told: the number, or the nearest limit where it is out of range.
+#[tactic(auto, unfolding(crate::specs::Stored::clamped))]
+pub fn tell(stored: i32) -> Coordinate
+    ensures { result.value ≡ clamped stored }
 {
-    stored.clamp(-1_073_741_824, 1_073_741_824)
-}
-
-// A stored number as it is told.
-pub fn tell(stored: i32) -> i32
-    ensures value { result ≡ clamped stored }
-    ensures coordinate { Coordinate result }
-{
-    limited(stored)
+    Coordinate {
+        value: stored.clamp(Coordinate::MIN, Coordinate::MAX),
+    }
 }
 
 // A coordinate to be stored, which is told as it is.
-fn held(coordinate: i32) -> i32
-    requires { Coordinate coordinate }
-    ensures { clamped result ≡ coordinate }
+#[tactic(auto, using(crate::proofs::Clamping::clamped_is))]
+pub fn held(coordinate: Coordinate) -> i32
+    ensures { clamped result ≡ coordinate.value }
 {
-    coordinate
+    coordinate.value
 }
 
 // A stored number that tells the negative.
@@ -37,21 +31,13 @@ pub fn opposite(stored: i32) -> i32
     held(-tell(stored))
 }
 
-// The blend of two stored numbers as they are told, and whether it is inexact.
-pub fn mix(p: i32, q: i32, a: u32, b: u32) -> (i32, bool)
-    requires { Ratio a b }
-    ensures value { clamped result.0 ≡ blended (clamped p) (clamped q) a b }
-    ensures inexact { result.1 ≡ inexact (clamped p) (clamped q) a b }
-{
-    let (mean, inexact) = blend(tell(p), tell(q), a, b);
-    (held(mean), inexact)
-}
-
 // Coordinate i of a list, to be stored.
 pub fn store(xs: &[i64], i: usize) -> i32
     requires within { i < length xs.now }
-    requires coordinate { (k : ℕ) → Coordinate (slice_index_or xs.now k (pos 0)) }
+    requires coordinate { (k : ℕ) → IsCoordinate (slice_index_or xs.now k (pos 0)) }
     ensures { clamped result ≡ slice_index_or xs.now i (pos 0) }
 {
-    held(xs[i] as i32)
+    held(Coordinate {
+        value: xs[i] as i32,
+    })
 }

@@ -22,12 +22,12 @@ pub enum PieceFault {
     OffDomain,
 }
 
-impl PieceFault {
-    // Number, layer and place.
-    pub fn report(&self) -> Report
-        ensures { result ≡ piece_report self.now }
-    {
-        let (number, place) = match *self {
+// What a fault of a piece tells.
+impl From<PieceFault> for Report {
+    ghost from_gives = { λ e r. r ≡ piece_report e };
+
+    fn from(fault: PieceFault) -> Report {
+        let (number, place) = match fault {
             PieceFault::Degree => (4, 0),
             PieceFault::Count => (5, 0),
             PieceFault::KnotCount => (6, 0),

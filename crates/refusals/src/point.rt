@@ -14,15 +14,14 @@ pub enum PointFault {
     Test,
 }
 
-impl PointFault {
-    // Number, layer and place.
-    pub fn report(&self) -> Report
-        ensures { result ≡ point_report self.now }
-    {
-        let place = match *self {
-            PointFault::Count => 0,
+// What a fault of a point tells.
+impl From<PointFault> for Report {
+    ghost from_gives = { λ e r. r ≡ point_report e };
+
+    fn from(fault: PointFault) -> Report {
+        let place = match fault {
             PointFault::Range(i) => i,
-            PointFault::Test => 0,
+            PointFault::Count | PointFault::Test => 0,
         };
         Report {
             number: 10,

@@ -7,7 +7,7 @@ use crate::point::PointFault;
 use crate::report::Report;
 
 // Why a drawing makes no section: the fault of the layer that found it, carried whole.
-#[derive(Clone, Copy)]
+#[derive(Clone, Copy, PartialEq, Eq, Debug)]
 pub enum SectionFault {
     Piece(PieceFault),
     Point(PointFault),
@@ -29,14 +29,14 @@ impl From<PointFault> for SectionFault {
     }
 }
 
-impl SectionFault {
-    // Number, layer and place.
-    pub fn report(&self) -> Report
-        ensures { result ≡ section_report self.now }
-    {
-        match self {
-            SectionFault::Piece(e) => e.report(),
-            SectionFault::Point(e) => e.report(),
+// What the layer that found the fault tells of it.
+impl From<SectionFault> for Report {
+    ghost from_gives = { λ e r. r ≡ section_report e };
+
+    fn from(fault: SectionFault) -> Report {
+        match fault {
+            SectionFault::Piece(e) => e.into(),
+            SectionFault::Point(e) => e.into(),
         }
     }
 }

@@ -1,15 +1,15 @@
-ghost use Rattle.std.specs.Prelude.{[], ◌∷◌, refl, pos, slice_index_or};
+ghost use Rattle.std.specs.Prelude.{[], ◌∷◌, refl};
 ghost use Rattle.points.specs.Lists.{unconditional, kept, negated};
 ghost use Rattle.points.specs.Stored.{clamped};
-ghost use Rattle.points.proofs.Shapes.{clamped_ranged, narrow_by, rebuilt};
-ghost use Rattle.std.proofs.Math.IntN.{neg_ℤ-neg_ℤ};
-ghost use Rattle.std.proofs.Common.{ap, ◌∙◌};
+ghost use Rattle.points.proofs.Shapes.{clamped_ranged, narrow_by};
+ghost use Rattle.points.proofs.Turns.{restores_by};
 
+use grid::coordinate::Coordinate;
 use points::point::Point;
-use points::stored::{mix, opposite, store, tell};
+use points::stored::{opposite, store, tell};
 
 // A height over the waterline: one coordinate.
-#[derive(Clone, Copy)]
+#[derive(Clone, Copy, PartialEq, Eq, Debug)]
 pub struct Height {
     pub z: i32,
 }
@@ -17,7 +17,7 @@ pub struct Height {
 impl Point for Height {
     const WIDTH: usize = 1;
 
-    ghost width = { 1 };
+    ghost WIDTH = { 1 };
 
     ghost told = { λ p. clamped p.z ∷ [] };
 
@@ -33,11 +33,7 @@ impl Point for Height {
 
     ghost flips = { λ xs p. refl };
 
-    ghost restores = { λ xs p. ap (λ x. x ∷ []) (neg_ℤ-neg_ℤ (slice_index_or xs 0 (pos 0))) ∙ rebuilt 1 xs p.long };
-
-    fn wide() -> usize {
-        Self::WIDTH
-    }
+    ghost restores = { restores_by (negated 0 ∷ []) unconditional refl };
 
     fn admits(_xs: &[i64]) -> bool {
         true
@@ -47,16 +43,11 @@ impl Point for Height {
         Height { z: store(xs, 0) }
     }
 
-    fn coordinate(&self, i: usize) -> i32 {
+    fn coordinate(&self, i: usize) -> Coordinate {
         match i {
             0 => tell(self.z),
-            _ => 0,
+            _ => Coordinate::ZERO,
         }
-    }
-
-    fn blend(&self, other: &Height, a: u32, b: u32) -> (Height, bool) {
-        let z = mix(self.z, other.z, a, b);
-        (Height { z: z.0 }, z.1)
     }
 
     fn flip(self) -> Height {
@@ -68,7 +59,7 @@ impl Point for Height {
 
 // A corner of a plate with its offsets to port and to starboard, which its mirror image swaps:
 // four coordinates.
-#[derive(Clone, Copy)]
+#[derive(Clone, Copy, PartialEq, Eq, Debug)]
 pub struct Corner {
     pub x: i32,
     pub y: i32,
@@ -79,7 +70,7 @@ pub struct Corner {
 impl Point for Corner {
     const WIDTH: usize = 4;
 
-    ghost width = { 4 };
+    ghost WIDTH = { 4 };
 
     ghost told = { λ p. clamped p.x ∷ (clamped p.y ∷ (clamped p.port ∷ (clamped p.starboard ∷ []))) };
 
@@ -95,11 +86,7 @@ impl Point for Corner {
 
     ghost flips = { λ xs p. refl };
 
-    ghost restores = { λ xs p. ap (λ x. x ∷ (slice_index_or xs 1 (pos 0) ∷ (slice_index_or xs 2 (pos 0) ∷ (slice_index_or xs 3 (pos 0) ∷ [])))) (neg_ℤ-neg_ℤ (slice_index_or xs 0 (pos 0))) ∙ rebuilt 4 xs p.long };
-
-    fn wide() -> usize {
-        Self::WIDTH
-    }
+    ghost restores = { restores_by (negated 0 ∷ (kept 1 ∷ (kept 3 ∷ (kept 2 ∷ [])))) unconditional refl };
 
     fn admits(_xs: &[i64]) -> bool {
         true
@@ -114,30 +101,14 @@ impl Point for Corner {
         }
     }
 
-    fn coordinate(&self, i: usize) -> i32 {
+    fn coordinate(&self, i: usize) -> Coordinate {
         match i {
             0 => tell(self.x),
             1 => tell(self.y),
             2 => tell(self.port),
             3 => tell(self.starboard),
-            _ => 0,
+            _ => Coordinate::ZERO,
         }
-    }
-
-    fn blend(&self, other: &Corner, a: u32, b: u32) -> (Corner, bool) {
-        let x = mix(self.x, other.x, a, b);
-        let y = mix(self.y, other.y, a, b);
-        let port = mix(self.port, other.port, a, b);
-        let starboard = mix(self.starboard, other.starboard, a, b);
-        (
-            Corner {
-                x: x.0,
-                y: y.0,
-                port: port.0,
-                starboard: starboard.0,
-            },
-            starboard.1 | port.1 | y.1 | x.1,
-        )
     }
 
     fn flip(self) -> Corner {

@@ -1,30 +1,20 @@
-use Rattle.std.proofs.Common.{◌≡◌, true, false, not, get_or, pos, None, sym, ap, ◌∙◌, ⊎_elim, arith, w64, SFits, rules}
-use Rattle.std.proofs.lemmas.Int.{to_z-of_z}
-use Rattle.std.proofs.lemmas.Bool.{cases_eq}
-use Rattle.points.proofs.Shapes.{out, out_at, out_nowhere, all_ranged, rebuilt}
+use Rattle.std.proofs.Common.{not, pos, None, sym, ap, ◌∙◌}
+use Rattle.grid.specs.Blend.{is_coordinate}
+use Rattle.grid.proofs.Searches.{position_is_first}
+use Rattle.refusals.specs.Order.{at}
+use Rattle.refusals.specs.declared.point.PointFault.TheVariants.{Range}
+use Rattle.points.proofs.Shapes.{first_out, all_ranged, rebuilt}
 use Rattle.points.proofs.point.shape.Goals as goal
 
-pub loop-i-preserved : goal.loop-i-preserved
-loop-i-preserved c =
-    let xs = c.args.xs.now in
-    let i = c.loop-i.i in
-    let f : SFits w64 (get_or xs i (pos 0)) = search rules in
-    let here : out xs i ≡ false = ap not (sym (simp to_z-of_z at c.if-not-in_range.ensures)) in
-    λ k low h. ⊎_elim (λ (e : k ≡ i). ap (out xs) e ∙ here) (λ ne. c.loop-i.invariant k low (omega arith)) (cases_eq k i)
+pub returns-in-Some : goal.returns-in-Some
+returns-in-Some c = first_out c.args.xs.now c.args.width None c.if-xs-width.false ∙ ap (λ o. at o Range None) (sym c.first_outside.ensures ∙ c.in-Some.is)
 
-pub returns-then-not-in_range : goal.returns-then-not-in_range
-returns-then-not-in_range c =
+pub returns-in-None : goal.returns-in-None
+returns-in-None c =
     let xs = c.args.xs.now in
-    let i = c.loop-i.i in
-    let f : SFits w64 (get_or xs i (pos 0)) = search rules in
-    let here : out xs i ≡ true = ap not (sym (simp to_z-of_z at c.if-not-in_range.ensures)) in
-    out_at xs c.args.width c.if-xs-width.false None i c.loop-i-test.true c.loop-i.invariant here
-
-pub returns : goal.returns
-returns c =
-    let xs = c.args.xs.now in (
-      out_nowhere xs c.args.width c.if-xs-width.false None (λ k low h. c.loop-i.invariant k low (omega arith)),
+    let nowhere = sym c.first_outside.ensures ∙ c.in-None.is in (
+      first_out xs c.args.width None c.if-xs-width.false ∙ ap (λ o. at o Range None) nowhere,
       c.if-xs-width.false,
-      all_ranged xs (λ k low h. c.loop-i.invariant k low (omega arith)),
+      all_ranged xs (sym (position_is_first (λ x. not (is_coordinate x)) xs (pos 0)) ∙ nowhere),
       rebuilt c.args.width xs c.if-xs-width.false,
     )

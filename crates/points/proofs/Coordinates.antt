@@ -2,7 +2,7 @@
 use Rattle.std.proofs.Common.{◌≡◌, ℕ, zero, suc, ◌+◌, ◌<◌, Bool, true, false, ◌||◌, ◌≤◌, List, [], ◌∷◌, length, take, drop, set, ℤ, pos, sym, refl, ap, ◌∙◌, subst, ⊎_elim, arith}
 use lib.ListN.{length-set}
 use Rattle.std.proofs.lemmas.Grind.{get_or-set_at}
-use Rattle.std.proofs.lemmas.List.{at_drop_more, drop_all, ext_get_or, get_or-set_other, get_or-take, length-take-le}
+use Rattle.std.proofs.lemmas.List.{at_drop_more, ext_get_or, get_or-set_other, get_or-take, length-take-le}
 use borrow.Author.Differences.{ints}
 use Rattle.std.proofs.lemmas.Int.{clamps}
 use Rattle.std.proofs.lemmas.Bool.{cases_eq, or_parts}
@@ -70,12 +70,6 @@ module _ (a b : ℕ) (ratio : IsRatio a b) where
     pub told : rough ≡ inexact_point a b (drop i xs) (drop i ys)
 
   module _ (width : ℕ) (xs ys : List ℤ) (long : length xs ≡ width) (same : length xs ≡ length ys) where
-    -- none at first
-    pub none_made : (i : ℕ) (means : List ℤ) → i ≡ width → width ≤ length means → Made width xs ys i means false
-    none_made i means e room =
-        let end : drop i xs ≡ [] = drop_all i xs (omega arith) in
-        record { within = omega arith; room = room; made = λ k h l. absurd (omega arith); told = ap (λ l. inexact_point a b l (drop i ys)) (sym end) }
-
     -- the blend of the coordinate before joins them
     pub one_more : (j i : ℕ) (means : List ℤ) (mean : ℤ) (rough flag : Bool) → i + 1 ≡ j → Made width xs ys j means rough → mean ≡ blended (coordinate_of i xs) (coordinate_of i ys) a b
         → flag ≡ inexact (coordinate_of i xs) (coordinate_of i ys) a b → Made width xs ys i (set means i mean) (rough || flag)

@@ -38,12 +38,7 @@ pub(crate) fn drawn<'a>(degree: i64, knots: &'a [i64], points: &'a [&'a [i64]]) 
 
 // The coordinates of a point as it tells them, and 0 past the last.
 pub(crate) fn told<P: Point>(point: P) -> [i32; 4] {
-    [
-        point.coordinate(0).value,
-        point.coordinate(1).value,
-        point.coordinate(2).value,
-        point.coordinate(3).value,
-    ]
+    [0, 1, 2, 3].map(|i| point.coordinate(i).value)
 }
 
 // Holds a drawing's reading at u to what the point tells and to a number of inexact rounds.

@@ -3,8 +3,8 @@ use Rattle.std.proofs.lemmas.List.{map-set}
 use Rattle.pieces.proofs.Rows.{told_at}
 use Rattle.pieces.proofs.triangle.Window.blend_into.Goals as goal
 
-pub returns : goal.returns
-returns g c =
+pub returns-clause-entry : goal.returns-clause-entry
+returns-clause-entry g c =
     let told = g.P.Point.told in
     let room = c.args.room.now in
     let j = c.args.j in
@@ -13,4 +13,4 @@ returns g c =
     let p : told c.index-room-j.result ≡ get_or (map told room) (j - 1) [] = told_at told room (j - 1) c.index-room-j.result [] (omega arith) c.index-room-j.is in
     let q : told c.index-room-j-2.result ≡ get_or (map told room) j [] = told_at told room j c.index-room-j-2.result [] (omega arith) c.index-room-j-2.is in
     let value = rw (part, whole, p, q) at c.blend_points-mean.ensures.value in
-    record { entry = rw (map-set told room j c.blend_points-mean.result.value, value); inexact = rw (part, whole, p, q) at c.blend_points-mean.ensures.inexact }
+    rw (map-set told room j c.blend_points-mean.result.value, value)

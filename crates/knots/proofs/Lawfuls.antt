@@ -25,8 +25,14 @@ times_before x ks j h =
     omega arith
 
 -- and one that no index below j holds at most as often as there are others
-times_after : (x : ℕ) (ks : List ℕ) (j : ℕ) → j ≤ length ks → ((k : ℕ) → k < j → k < length ks → get_or ks k 0 ≡ x → ⊥) → times x ks ≤ length ks - j
-times_after x ks j g h = times_within x ks j (length ks) g (λ k q s. (⊎_elim (λ l. absurd (h k l q s)) (λ l. l) (cases_lt k j), q))
+pub times_after : (x : ℕ) (ks : List ℕ) (j : ℕ) → ((k : ℕ) → k < j → k < length ks → get_or ks k 0 ≡ x → ⊥) → times x ks ≤ length ks - j
+times_after x ks j h =
+    ⊎_elim
+    (λ (past : length ks < j).
+    let none = times_within x ks 0 0 (omega arith) (λ k q s. absurd (h k (omega arith) q s)) in
+    omega arith)
+    (λ (g : j ≤ length ks). times_within x ks j (length ks) g (λ k q s. (⊎_elim (λ l. absurd (h k l q s)) (λ l. l) (cases_lt k j), q)))
+    (cases_lt (length ks) j)
 
 -- magnitudes of whole numbers from 0 up are those numbers
 magnitudes : (ks : List ℕ) → map nat_abs (map pos ks) ≡ ks
@@ -147,7 +153,7 @@ module _ (d count : ℕ) (ks : List ℕ) (law : Lawful d count ks) where
       (λ ne.
       let long = law.long in
       let high = law.rises i (length ks - 1) (omega arith) (omega arith) in
-      let few = times_after (last_knot ks) ks (suc i) (omega arith) (λ k p q s. let r = law.rises k i (omega arith) lt in ne (omega arith)) in
+      let few = times_after (last_knot ks) ks (suc i) (λ k p q s. let r = law.rises k i (omega arith) lt in ne (omega arith)) in
       absurd (omega (arith, law.last)))
       (cases_eq (get_or ks i 0) (last_knot ks))
 

@@ -5,7 +5,7 @@ ghost use Rattle.knots.specs.Lawful.{Lawful, first_knots};
 pub const MOST_KNOTS: usize = 70;
 
 // Degree, number of control points and knots of a piece, lawful together: the knots in use are
-// the first `count + degree + 1`, and the places after them hold 0.
+// the first `count + degree + 1`; in a list that was judged the places after them hold 0.
 #[derive(Clone, Copy)]
 pub struct KnotList {
     pub degree: usize,

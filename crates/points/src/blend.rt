@@ -25,7 +25,7 @@ fn mean<P: Point>(p: &P, q: &P, at: Ratio, i: usize) -> Rounded<i64>
     }
 }
 
-// The blends of the coordinates of two points, one by one; 0 stands past the last.
+// The blends of the coordinates of two points, one by one, in the first places.
 fn means<P: Point>(p: &P, q: &P, at: Ratio) -> Rounded<[i64; MOST_COORDINATES]>
     ensures value { take P.WIDTH result.value ≡ blend_point at.part at.whole (P.told p.now) (P.told q.now) }
     ensures inexact { result.inexact ≡ inexact_point at.part at.whole (P.told p.now) (P.told q.now) }

@@ -51,7 +51,7 @@ fn judged_knot(knot: i64, place: usize) -> Result<u32, PieceFault>
 fn occurrences(x: u32, knots: &[u32]) -> usize
     ensures { result ≡ times x knots.now }
 {
-    knots.iter().filter(|knot| **knot == x).count()
+    knots.iter().map(|knot| usize::from(*knot == x)).sum()
 }
 
 // The first and the last value stand degree + 1 times, any other at most degree times.

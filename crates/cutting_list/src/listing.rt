@@ -64,10 +64,10 @@ pub(crate) fn list_section<P: Point>(
 {
     println!(rt; "{}", listing.name)?;
     match listing.drawing.lay(memory) {
-        Ok(list) => {
+        Ok(lawful) => {
             let piece = Piece {
-                knots: list.lent(),
-                points: &memory[..list.count],
+                knots: lawful.lent(),
+                points: &memory[..lawful.list.count],
             };
             show_readings(rt, &piece, listing.stride)
         }

@@ -5,7 +5,7 @@ ghost use Rattle.knots.specs.Stores.{Stores};
 ghost use Rattle.refusals.specs.declared.piece.PieceFault.TheVariants.{Count, KnotCount, KnotRange, KnotFalls, KnotRepeats};
 
 use crate::degree::Degree;
-use crate::list::{KnotList, MOST_KNOTS};
+use crate::list::{KnotList, LawfulList, MOST_KNOTS};
 use refusals::piece::PieceFault;
 
 // A piece of degree d has from d + 1 to 64 control points.
@@ -122,22 +122,24 @@ fn judge_repeats(degree: Degree, knots: &[u32]) -> Result<(), PieceFault>
 
 // The list of what nothing refuses, which is lawful.
 #[tactic(auto, using(crate::proofs::Lawfuls::lawful))]
-fn listed(degree: usize, count: usize, knots: [u32; MOST_KNOTS]) -> KnotList
+fn listed(degree: usize, count: usize, knots: [u32; MOST_KNOTS]) -> LawfulList
     requires { piece_refusal (pos degree) count (map pos (first_knots degree count knots)) ≡ None }
-    ensures { (result.degree ≡ degree) × (result.count ≡ count) × (result.knots ≡ knots) }
+    ensures { (result.list.degree ≡ degree) × (result.list.count ≡ count) × (result.list.knots ≡ knots) }
 {
-    KnotList {
-        degree,
-        count,
-        knots,
+    LawfulList {
+        list: KnotList {
+            degree,
+            count,
+            knots,
+        },
     }
 }
 
 // Judges degree, number of control points and knots as the caller has them, and stores them
 // where they are lawful: causes 4 to 9, the smallest number first.
-pub fn judge(degree: i64, count: usize, knots: &[i64]) -> Result<KnotList, PieceFault>
+pub fn judge(degree: i64, count: usize, knots: &[i64]) -> Result<LawfulList, PieceFault>
     ensures judged { MatchResult result
-        (λ l. (piece_refusal degree count knots.now ≡ None) × Stores degree count knots.now l)
+        (λ l. (piece_refusal degree count knots.now ≡ None) × Stores degree count knots.now l.list)
         (λ e. piece_refusal degree count knots.now ≡ Some e) }
 {
     let degree = Degree::try_from(degree)?;

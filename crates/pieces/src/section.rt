@@ -3,7 +3,7 @@ ghost use Rattle.knots.specs.Stores.{Stores};
 ghost use Rattle.pieces.specs.Sections.{section_refusal};
 
 use knots::judge::judge;
-use knots::list::KnotList;
+use knots::list::LawfulList;
 use points::point::Point;
 use points::row::CheckedRow;
 use refusals::section::SectionFault;
@@ -18,11 +18,11 @@ pub struct Drawing<'a> {
 
 impl Drawing<'_> {
     // Lays the section from the start of a memory; where it is refused, the memory stays.
-    pub fn lay<P: Point>(&self, memory: &mut [P]) -> Result<KnotList, SectionFault>
+    pub fn lay<P: Point>(&self, memory: &mut [P]) -> Result<LawfulList, SectionFault>
         requires { 64 ≤ length memory.old }
         ensures refusal { MatchResult result
             (λ l. (section_refusal P.WIDTH P.passes self.now.degree (length self.now.points.now) self.now.knots.now (map (λ x. x.now) self.now.points.now) ≡ None)
-            × Stores self.now.degree (length self.now.points.now) self.now.knots.now l)
+            × Stores self.now.degree (length self.now.points.now) self.now.knots.now l.list)
             (λ e. section_refusal P.WIDTH P.passes self.now.degree (length self.now.points.now) self.now.knots.now (map (λ x. x.now) self.now.points.now) ≡ Some e) }
         ensures memory { MatchResult result
             (λ _. (map P.told (take (length self.now.points.now) memory.new) ≡ map (λ x. x.now) self.now.points.now)

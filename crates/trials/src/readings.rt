@@ -19,10 +19,10 @@ pub(crate) fn reading<P: Point>(
 ) -> Result<(P, usize), Report>
     requires { 64 ≤ length memory.old }
 {
-    let list = drawing.lay(memory)?;
+    let lawful = drawing.lay(memory)?;
     let piece = Piece {
-        knots: list.lent(),
-        points: &memory[..list.count],
+        knots: lawful.lent(),
+        points: &memory[..lawful.list.count],
     };
     Ok(piece.read(u)?)
 }

@@ -19,7 +19,7 @@ times_within x (k ∷ ks) a b l h =
     grind (arith, nat_tests)
 
 -- so one that no index from j on holds stands at most j times
-times_before : (x : ℕ) (ks : List ℕ) (j : ℕ) → ((k : ℕ) → j ≤ k → k < length ks → get_or ks k 0 ≡ x → ⊥) → times x ks ≤ j
+pub times_before : (x : ℕ) (ks : List ℕ) (j : ℕ) → ((k : ℕ) → j ≤ k → k < length ks → get_or ks k 0 ≡ x → ⊥) → times x ks ≤ j
 times_before x ks j h =
     let few = times_within x ks 0 j (omega arith) (λ k q s. (omega arith, ⊎_elim (λ l. l) (λ l. absurd (h k l q s)) (cases_lt k j))) in
     omega arith
@@ -35,12 +35,12 @@ times_after x ks j h =
     (cases_lt (length ks) j)
 
 -- magnitudes of whole numbers from 0 up are those numbers
-magnitudes : (ks : List ℕ) → map nat_abs (map pos ks) ≡ ks
+pub magnitudes : (ks : List ℕ) → map nat_abs (map pos ks) ≡ ks
 magnitudes [] = refl
 magnitudes (k ∷ ks) = ap (λ l. k ∷ l) (magnitudes ks)
 
 -- what each cause leaves where it does not hold
-record Passed (degree : ℤ) (count : ℕ) (knots : List ℤ) : Type 0 where
+pub record Passed (degree : ℤ) (count : ℕ) (knots : List ℤ) : Type 0 where
   pub degree_good : is_degree degree ≡ true
   pub count_good : is_count (nat_abs degree) count ≡ true
   pub length_is : length knots ≡ count + nat_abs degree + 1
@@ -48,7 +48,7 @@ record Passed (degree : ℤ) (count : ℕ) (knots : List ℤ) : Type 0 where
   pub none_falls : first_fall (map nat_abs knots) ≡ None
   pub none_ill_repeated : first_ill_repeated (nat_abs degree) (map nat_abs knots) ≡ None
 
-passed : (degree : ℤ) (count : ℕ) (knots : List ℤ) → piece_refusal degree count knots ≡ None → Passed degree count knots
+pub passed : (degree : ℤ) (count : ℕ) (knots : List ℤ) → piece_refusal degree count knots ≡ None → Passed degree count knots
 passed degree count knots e =
     let a = unless_passed (is_degree degree) Degree _ e in
     let b = unless_passed (is_count (nat_abs degree) count) Count _ a.1 in
@@ -182,7 +182,7 @@ module _ (d count : ℕ) (ks : List ℕ) (law : Lawful d count ks) where
   ill_repeated_nowhere =
       first_none (λ i. not (repeats_well d ks (get_or ks i 0))) 0 (length ks) (λ i low high. not_from_true _ (well_repeated i (omega arith)))
 
-  unrefused : piece_refusal (pos d) count (map pos ks) ≡ None
+  pub unrefused : piece_refusal (pos d) count (map pos ks) ≡ None
   unrefused =
       unless_passes (is_degree (pos d)) Degree _ (let good = law.degree in grind (arith, nat_tests))
       (unless_passes (is_count d count) Count _ (let good = law.number in grind (arith, nat_tests))

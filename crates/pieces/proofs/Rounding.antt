@@ -162,7 +162,7 @@ module _ (d : ℕ) (ks : List ℕ) (ps : List (List ℤ)) (u k width : ℕ) (law
         (subst (Near quotient_field (sum quotient_field d (λ q. mk (halves (cond (found q) 1 0)))) (of (value d k))) curve_is (entries_near d k (omega arith) (omega arith) (omega arith))))
 
   -- what the triangle gives keeps to the exact spline, and to the box
-  triangle_keeps : KeepsToCurve d ks ps (pos u) (entry d ks ps u d k) (inexact_rounds d ks ps u k d)
+  pub triangle_keeps : KeepsToCurve d ks ps (pos u) (entry d ks ps u d k) (inexact_rounds d ks ps u k d)
   unfolding value
   triangle_keeps = record {
     few = few_rounds d;

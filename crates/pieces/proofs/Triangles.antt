@@ -19,6 +19,24 @@ module _ (d : ℕ) (ks : List ℕ) (ps : List (List ℤ)) (u : ℕ) where
     pub entries : (j : ℕ) → r ≤ j → j ≤ d → get_or xs j [] ≡ entry d ks ps u r j
     pub rounds : count ≡ inexact_rounds d ks ps u d r
 
+  module _ (q : ℕ) (xs : List (List ℤ)) (h : (j : ℕ) → q ≤ j → j ≤ d → get_or xs j [] ≡ entry d ks ps u q j) where
+    -- where the entries of round q stand, round q + 1 is counted where its blends are inexact
+    pub rounds_more : (found : Bool) → q < d → found ≡ any_where (λ j. inexact_between d ks u (suc q) j (get_or xs (j - 1) []) (get_or xs j [])) (suc q) (d + 1 - suc q)
+        → inexact_rounds d ks ps u d q + bool_byte found ≡ inexact_rounds d ks ps u d (suc q)
+    rounds_more found few seen =
+        let test : ℕ → Bool = λ j. inexact_between d ks u (suc q) j (get_or xs (j - 1) []) (get_or xs j []) in
+        let from : d - d + suc q ≡ 0 + suc q = omega arith in
+        let size : d + 1 - suc q ≡ d - q = omega arith in
+        let same : any_where test (suc q) (d - q) ≡ any_where (inexact_entry d ks ps u q) (0 + suc q) (d - q) =
+        any_shifted test (inexact_entry d ks ps u q) 0 (suc q) (d - q) (λ j low high.
+        let a = h (j - 1) (omega arith) (omega arith) in
+        let b = h j (omega arith) (omega arith) in
+        let z : j ≡ 0 + j = omega arith in
+        rw (a, b) (ap (inexact_entry d ks ps u q) z)) in
+        let all : found ≡ any_where (inexact_entry d ks ps u q) (d - d + suc q) (d - q) =
+        seen ∙ ap (any_where test (suc q)) size ∙ same ∙ ap (λ v. any_where (inexact_entry d ks ps u q) v (d - q)) (sym from) in
+        ap (λ v. inexact_rounds d ks ps u d q + v) (one found ∙ ap (λ v. cond v 1 0) all)
+
   module _ (q : ℕ) (xs ys : List (List ℤ)) (count : ℕ) (h : Done q xs count) (few : q < d) (found : Bool)
       (made : (j : ℕ) → suc q ≤ j → j ≤ d → get_or ys j [] ≡ between d ks u (suc q) j (get_or xs (j - 1) []) (get_or xs j []))
       (seen : found ≡ any_where (λ j. inexact_between d ks u (suc q) j (get_or xs (j - 1) []) (get_or xs j [])) (suc q) (d + 1 - suc q)) where
@@ -28,23 +46,8 @@ module _ (d : ℕ) (ks : List ℕ) (ps : List (List ℤ)) (u : ℕ) where
         let b = h.entries j (omega arith) high in
         rw (a, b) at (made j low high)
 
-    rounds_more : count + bool_byte found ≡ inexact_rounds d ks ps u d (suc q)
-    rounds_more =
-        let test : ℕ → Bool = λ j. inexact_between d ks u (suc q) j (get_or xs (j - 1) []) (get_or xs j []) in
-        let from : d - d + suc q ≡ 0 + suc q = omega arith in
-        let size : d + 1 - suc q ≡ d - q = omega arith in
-        let same : any_where test (suc q) (d - q) ≡ any_where (inexact_entry d ks ps u q) (0 + suc q) (d - q) =
-        any_shifted test (inexact_entry d ks ps u q) 0 (suc q) (d - q) (λ j low high.
-        let a = h.entries (j - 1) (omega arith) (omega arith) in
-        let b = h.entries j (omega arith) (omega arith) in
-        let z : j ≡ 0 + j = omega arith in
-        rw (a, b) (ap (inexact_entry d ks ps u q) z)) in
-        let all : found ≡ any_where (inexact_entry d ks ps u q) (d - d + suc q) (d - q) =
-        seen ∙ ap (any_where test (suc q)) size ∙ same ∙ ap (λ v. any_where (inexact_entry d ks ps u q) v (d - q)) (sym from) in
-        ap (λ v. v + bool_byte found) h.rounds ∙ ap (λ v. inexact_rounds d ks ps u d q + v) (one found ∙ ap (λ v. cond v 1 0) all)
-
     done_more : Done (suc q) ys (count + bool_byte found)
-    done_more = record { entries = entries_more; rounds = rounds_more }
+    done_more = record { entries = entries_more; rounds = ap (λ v. v + bool_byte found) h.rounds ∙ rounds_more q xs h.entries found few seen }
 
   -- round r takes what stands after r - 1 rounds to what stands after r
   pub round_done : (r n : ℕ) (xs ys : List (List ℤ)) (count : ℕ) (found : Bool) (more : ℕ) → 1 ≤ r → r ≤ d → r ≡ n → more ≡ bool_byte found → Done (r - 1) xs count

@@ -1,6 +1,7 @@
 -- Lawful degrees, counts and knot lists, and the causes that refuse the others.
-use Rattle.std.specs.Prelude.{◌≡◌, ℕ, ◌+◌, ◌-◌, ◌^◌, ◌<◌, ◌≤◌, Bool, cond, not, ◌&&◌, ◌||◌, ◌≢◌, List, count_by, map, length, take, ℤ, pos, None, Option, ◌==◌, int_le, nat_le, nat_lt, slice_index, slice_index_or, unsigned_abs}
+use Rattle.std.specs.Prelude.{◌≡◌, ℕ, ◌+◌, ◌-◌, ◌^◌, ◌<◌, ◌≤◌, Bool, cond, not, ◌&&◌, ◌||◌, ◌≢◌, List, count_by, ◌++◌, map, length, take, replicate, ℤ, pos, None, Option, ◌==◌, int_le, nat_le, nat_lt, slice_index, slice_index_or, unsigned_abs}
 use Rattle.refusals.specs.Order.{unless, at}
+use Rattle.knots.specs.declared.list.KnotList.{KnotList}
 use Rattle.grid.specs.Search.{first_where}
 use Rattle.refusals.specs.declared.piece.PieceFault.{PieceFault}
 use Rattle.refusals.specs.declared.piece.PieceFault.TheVariants.{Degree, Count, KnotCount, KnotRange, KnotFalls, KnotRepeats}
@@ -81,3 +82,10 @@ piece_refusal degree count knots =
 abbrev pub RefusesTheUnlawful : Type 0
 RefusesTheUnlawful =
     (d count : ℕ) (ks : List ℕ) → (piece_refusal (pos d) count (map pos ks) ≡ None → Lawful d count ks) × (Lawful d count ks → piece_refusal (pos d) count (map pos ks) ≡ None)
+
+-- what a record stores of a degree, a number of control points and knots: the knots first, then 0
+pub record Stores (degree : ℤ) (count : ℕ) (knots : List ℤ) (l : KnotList) : Type 0 where
+  pub degree_is : degree ≡ pos l.degree
+  pub count_is : count ≡ l.count
+  pub knots_are : l.knots ≡ map unsigned_abs knots ++ replicate (70 - length knots) 0
+  pub in_range : knots ≡ map pos (map unsigned_abs knots)

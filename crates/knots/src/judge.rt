@@ -1,7 +1,6 @@
 ghost use Rattle.std.specs.Prelude.{◌≡◌, ℕ, ◌+◌, ◌-◌, ◌<◌, ◌≤◌, true, false, ◌++◌, map, length, take, replicate, pos, Some, None, MatchResult, ◌==◌, unsigned_abs};
 ghost use Rattle.std.specs.List.{list_all};
-ghost use Rattle.knots.specs.Lawful.{piece_refusal, first_knots, is_count, is_knot, times, repeats_well, first_outside, first_fall, first_ill_repeated};
-ghost use Rattle.knots.specs.Stores.{Stores};
+ghost use Rattle.knots.specs.Lawful.{piece_refusal, Stores, first_knots, is_count, is_knot, times, repeats_well, first_outside, first_fall, first_ill_repeated};
 ghost use Rattle.refusals.specs.declared.piece.PieceFault.TheVariants.{Count, KnotCount, KnotRange, KnotFalls, KnotRepeats};
 
 use crate::degree::Degree;

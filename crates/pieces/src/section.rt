@@ -1,5 +1,5 @@
 ghost use Rattle.std.specs.Prelude.{◌≡◌, ◌≤◌, map, length, take, drop, Some, None, MatchResult};
-ghost use Rattle.knots.specs.Stores.{Stores};
+ghost use Rattle.knots.specs.Lawful.{Stores};
 ghost use Rattle.pieces.specs.Sections.{section_refusal};
 
 use knots::judge::judge;

@@ -10,7 +10,7 @@ use std::io;
 // stride is 0.
 pub struct Listing<'a> {
     pub name: &'a str,
-    pub drawing: Drawing<'a>,
+    pub drawing: Drawing<'a, 'a, 'a>,
     pub stride: usize,
 }
 

@@ -10,13 +10,13 @@ use refusals::section::SectionFault;
 
 // A section as a draughtsman gives it, nothing of it checked.
 #[derive(Clone, Copy)]
-pub struct Drawing<'a> {
+pub struct Drawing<'k, 'l, 'x> {
     pub degree: i64,
-    pub knots: &'a [i64],
-    pub points: &'a [&'a [i64]],
+    pub knots: &'k [i64],
+    pub points: &'l [&'x [i64]],
 }
 
-impl Drawing<'_> {
+impl Drawing<'_, '_, '_> {
     // Lays the section from the start of a memory; where it is refused, the memory stays.
     pub fn lay<P: Point>(&self, memory: &mut [P]) -> Result<LawfulList, SectionFault>
         requires { 64 ≤ length memory.old }

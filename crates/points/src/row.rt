@@ -19,16 +19,16 @@ fn placed(fault: PointFault, before: usize) -> PointFault
 
 // Lists of which each means a point of the kind P.
 #[derive(Drop)]
-pub struct CheckedRow<'a, P: Point> {
-    pub lists: &'a [&'a [i64]],
+pub struct CheckedRow<'l, 'x, P: Point> {
+    pub lists: &'l [&'x [i64]],
     pub kind: PhantomData<P>,
     ghost checked: { row_refusal P.WIDTH P.passes 0 (map (λ x. x.now) lists.now) ≡ None },
 }
 
-impl<'a, P: Point> CheckedRow<'a, P> {
+impl<'l, 'x, P: Point> CheckedRow<'l, 'x, P> {
     // Checks lists: they are tried in order, and a coordinate out of range is placed by its index
     // through all of them.
-    pub fn check(lists: &'a [&'a [i64]]) -> Result<Self, PointFault>
+    pub fn check(lists: &'l [&'x [i64]]) -> Result<Self, PointFault>
         requires { length lists.now ≤ 64 }
         ensures { MatchResult result
             (λ row. (row_refusal P.WIDTH P.passes 0 (map (λ x. x.now) lists.now) ≡ None) × (row.lists.now ≡ lists.now))

@@ -28,7 +28,11 @@ pub(crate) fn reading<P: Point>(
 }
 
 // A drawing from its degree, knots and control points.
-pub(crate) fn drawn<'a>(degree: i64, knots: &'a [i64], points: &'a [&'a [i64]]) -> Drawing<'a> {
+pub(crate) fn drawn<'k, 'l, 'x>(
+    degree: i64,
+    knots: &'k [i64],
+    points: &'l [&'x [i64]],
+) -> Drawing<'k, 'l, 'x> {
     Drawing {
         degree,
         knots,
